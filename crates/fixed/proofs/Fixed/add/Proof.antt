@@ -1,0 +1,41 @@
+-- `Fixed::add` meets its contract: the sum is exact in 64 bits, and wraps once. Assumes nothing.
+use borrow.Author.Needs.{needs}
+use mathlib.Core.Path.{ap, _∙_}
+use mir.Syntax.{w32}
+use mir.Val.{SFits}
+use mir.Facts.{toZ-ofZ}
+use Rattle.fixed.specs.Fixed.{fromBits, addF}
+use Rattle.fixed.proofs.Ints.{add-fits}
+use Rattle.fixed.proofs.Bits.{wide, widened, read}
+use Rattle.fixed.proofs.Fixed.add.Statement.{statement}
+use Rattle.fixed.proofs.Fixed.add.Tie as tie
+
+module _ (s : tie.Start) where
+  fs : SFits w32 (s .args .self .bits)
+  fs = search needs
+
+  fb : SFits w32 (s .args .b .bits)
+  fb = search needs
+
+cast-wrap : tie.Need-cast-wrap
+cast-wrap c = search (needs, wide)
+
+cast-wrap-2 : tie.Need-cast-wrap-2
+cast-wrap-2 c = search (needs, wide)
+
+add-wrap : tie.Need-add-wrap
+add-wrap c =
+    let s = c .before .before .before .before in
+    rw (widened _ (fs s), widened _ (fb s)) (add-fits (fs s) (fb s))
+
+wrap-requires : tie.Need-wrap-requires
+wrap-requires c κs = search needs
+
+returns : tie.Need-returns
+unfolding addF
+returns c =
+    let s = c .before .before .before .before .before in
+    ap fromBits (read w32 (c .wrap .result) (c .wrap .ok) ∙ c .wrap .ensures ∙ rw (toZ-ofZ (add-wrap (c .before)), widened _ (fs s), widened _ (fb s)))
+
+pub add-spec : {M : Type 1} → statement M
+add-spec = tie.close (tie.spec cast-wrap cast-wrap-2 add-wrap wrap-requires returns)

@@ -1,0 +1,5 @@
+pub mod Ints
+pub mod Bits
+pub mod Nearest
+pub mod Order
+pub mod Laws
