@@ -3,3 +3,4 @@ pub mod Bits
 pub mod Nearest
 pub mod Order
 pub mod Laws
+pub mod Unique

@@ -1,0 +1,119 @@
+"""Makes the rows that `figures` runs against 16.16 numbers:
+
+    python3 vectors.py > src/numbers.rt
+
+The expected bits come from exact fractions, by the rules of document 01, "Numbers in 16.16".
+"""
+
+import random
+from fractions import Fraction
+from itertools import product as pairs
+
+HEADER = """\
+// Rows for the operations on 16.16 numbers. Four numbers are a row: three operands, with 0 for one
+// that is not taken, and the expected bits. `python3 vectors.py > src/numbers.rt` makes this file.
+// It works the expected bits out in exact fractions; no other code of the project takes part.
+"""
+LOW, HIGH = -(2**31), 2**31 - 1
+EDGES = [LOW, -65536, -1, 0, 1, 65536, HIGH]
+SIZES = [8, 17, 24, 31]
+SINGLES = [LOW, LOW + 1, -65537, -65536, -32769, -32768, -1025, -1, 0, 1, 1023, 1024]
+SINGLES += [32767, 32768, 65535, 2**30 - 1, 2**30, HIGH - 32768, HIGH - 32767, HIGH]
+ORDERED = [(LOW, LOW), (LOW, LOW + 1), (LOW, HIGH), (HIGH, LOW), (HIGH - 1, HIGH), (HIGH, HIGH)]
+ORDERED += [(-1, -1), (-1, 0), (0, -1), (0, 0), (1, 0), (-1, 1)]
+
+
+def wrapped(whole):
+    """The low 32 bits as a signed number."""
+    return (whole - LOW) % 2**32 + LOW
+
+
+def nearest(value):
+    """The nearest whole number, halves away from zero."""
+    size = int(abs(value) + Fraction(1, 2))
+    return size if value >= 0 else -size
+
+
+def quotient(a, b):
+    if b == 0:
+        return -HIGH if a < 0 else HIGH
+    return wrapped(nearest(Fraction(a * 65536, b)))
+
+
+def half(a):
+    """`int` cuts a fraction off toward zero."""
+    return int(Fraction(a, 2))
+
+
+def signed(sizes):
+    return [sign * size for size in sizes for sign in (1, -1)]
+
+
+def near_halves(neighbours):
+    """Odd numbers by three neighbours in all signs; the middle one gives an exact half to round."""
+    return list(pairs(signed([1, 3, 65535]), signed(neighbours)))
+
+
+def drawn(size):
+    """A random number of at most so many bits and its sign."""
+    return random.randint(-(2**size), 2**size - 1)
+
+
+def drawn_pairs(times):
+    """Random pairs, so many for every two sizes."""
+    return [(drawn(m), drawn(n)) for m, n in pairs(SIZES, repeat=2) for _ in range(times)]
+
+
+def with_divisors():
+    """Operands of a·b/c, with c above 0."""
+    extremes = [LOW, -1, 0, 1, HIGH]
+    rows = list(pairs(extremes, extremes, [1, 65536, HIGH]))
+    rows += [(a, b, 20) for a, b in near_halves([9, 10, 11])]
+    for a, b in drawn_pairs(2):
+        rows.append((a, b, random.randint(1, 2 ** random.choice(SIZES) - 1)))
+    return rows
+
+
+def print_table(name, operands, expected):
+    rows = [(*row, 0, 0)[:3] + (expected(*row),) for row in operands]
+    print(f"\n// {len(rows)} rows.\npub const {name}: [i32; {4 * len(rows)}] = [")
+    for row in rows:
+        print(*(f"    {number},\n" for number in row), sep="", end="")
+    print("];")
+
+
+def main():
+    random.seed(1616)
+    print(HEADER, end="")
+    edges = list(pairs(EDGES, repeat=2))
+    products = edges + near_halves([32767, 32768, 32769]) + drawn_pairs(3)
+    quotients = edges + near_halves([131071, 131072, 131073]) + drawn_pairs(3)
+    print_table("PRODUCTS", products, lambda a, b: wrapped(nearest(Fraction(a * b, 65536))))
+    print_table("QUOTIENTS", quotients, quotient)
+    print_table("PRODUCT_QUOTIENTS", with_divisors(), lambda a, b, c: wrapped(nearest(Fraction(a * b, c))))
+
+    couples = list(pairs([LOW, -1, 0, HIGH], repeat=2)) + [(drawn(31), drawn(31)) for _ in range(4)]
+    print_table("SUMS", couples, lambda a, b: wrapped(a + b))
+    print_table("DIFFERENCES", couples, lambda a, b: wrapped(a - b))
+    print_table("MIDPOINTS", couples, lambda a, b: wrapped(a + half(wrapped(b - a))))
+
+    singles = [(a,) for a in SINGLES]
+    print_table("NEGATIONS", singles, lambda a: wrapped(-a))
+    print_table("ABSOLUTE_VALUES", singles, lambda a: wrapped(abs(a)))
+    print_table("DOUBLINGS", singles, lambda a: wrapped(2 * a))
+    print_table("ROUNDS", singles, lambda a: wrapped(a + 0x8000) & ~0xFFFF)
+    print_table("FRACTIONS", singles, lambda a: a & 0xFFFF)
+    print_table("HALVES", singles, half)
+    print_table("OUTPUTS", singles, lambda a: a & ~0x3FF)
+
+    print_table("LESS", ORDERED, lambda a, b: int(a < b))
+    print_table("AT_MOST", ORDERED, lambda a, b: int(a <= b))
+    print_table("SAME", ORDERED, lambda a, b: int(a == b))
+    print_table("MINIMA", ORDERED, min)
+    print_table("MAXIMA", ORDERED, max)
+
+    constants = [0, 65536, 0x8000, 1, HIGH]
+    print_table("CONSTANTS", [(number,) for number in range(len(constants))], lambda number: constants[number])
+
+
+main()
