@@ -14,10 +14,10 @@ bits a = a .bits
 
 abbrev pub rows : List Row
 rows =
-    -- "Output of bits 1023, 1024, −1: 0, 1024, −1024."
+    -- the output of 1023, of 1024 and of −1
     record { said = pos 0 ∷ pos 1024 ∷ negsuc 1023 ∷ []; given = bits (truncF (fromBits (pos 1023))) ∷ bits (truncF (fromBits (pos 1024))) ∷ bits (truncF (fromBits (negsuc 0))) ∷ [] }
-    -- "Round(−32768) = 0."
+    -- −0.5 rounded
     ∷ record { said = pos 0 ∷ []; given = bits (roundF (fromBits (negsuc 32767))) ∷ [] }
-    -- "Product of −1 and 32768: −1."
+    -- the product of −1 bit and 0.5
     ∷ record { said = negsuc 0 ∷ []; given = bits (mulF (fromBits (negsuc 0)) (fromBits (pos 32768))) ∷ [] }
     ∷ []

@@ -10,7 +10,7 @@ use Rattle.fixed.specs.Whole.{lowBits, clearLow, wrap32, ratioOf}
 abbrev pub fromBits : ℤ → Fixed
 fromBits z = record { bits = z }
 
--- "Sums and differences wrap at 32 bits, as do negation, absolute value and doubling."
+-- what wraps: the sum, the difference, the negation, the absolute value and the double
 unfoldable pub addF : Fixed → Fixed → Fixed
 addF a b = fromBits (wrap32 (a .bits +ℤ b .bits))
 
@@ -26,16 +26,16 @@ absF a = fromBits (wrap32 (pos (natAbs (a .bits))))
 unfoldable pub twiceF : Fixed → Fixed
 twiceF a = fromBits (wrap32 (a .bits +ℤ a .bits))
 
--- "Product: a·b/65536, nearest, halves away from zero, low 32 bits."
+-- the product: a·b/65536
 unfoldable pub mulF : Fixed → Fixed → Fixed
 mulF a b = fromBits (ratioOf (a .bits) (b .bits) 65536)
 
--- "b = 0 gives 0x7FFFFFFF, negated if a < 0."
+-- a quotient by 0: the largest number, negated for a below 0
 unfoldable pub overZero : ℤ → ℤ
 overZero (pos a) = pos 2147483647
 overZero (negsuc a) = negℤ (pos 2147483647)
 
--- "Quotient: a·65536/b, likewise"; for b below 0 that is a·(−65536)/|b|
+-- the quotient: a·65536/b, which for b below 0 is a·(−65536)/|b|
 unfoldable pub quotient : ℤ → ℤ → ℤ
 quotient a (pos zero) = overZero a
 quotient a (pos (suc b)) = ratioOf a (pos 65536) (suc b)
@@ -44,31 +44,31 @@ quotient a (negsuc b) = ratioOf a (negℤ (pos 65536)) (suc b)
 unfoldable pub divF : Fixed → Fixed → Fixed
 divF a b = fromBits (quotient (a .bits) (b .bits))
 
--- "a·b/c with c above 0: the same rounding."
+-- a·b/c, for c above 0
 unfoldable pub mulDivF : Fixed → Fixed → Fixed → Fixed
 mulDivF a b c = fromBits (ratioOf (a .bits) (b .bits) (natAbs (c .bits)))
 
--- "Round: add 0.5 (wrapping), clear the low 16 bits."
+-- rounding: the sum with 0.5, which wraps, without its low 16 bits
 unfoldable pub roundF : Fixed → Fixed
 roundF a = fromBits (clearLow 16 (wrap32 (a .bits +ℤ pos 32768)))
 
--- "Fraction: the low 16 bits."
+-- the fraction: the low 16 bits
 unfoldable pub fractF : Fixed → Fixed
 fractF a = fromBits (pos (lowBits 16 (a .bits)))
 
--- "Half divides the bits by 2 toward zero."
+-- half the bits, toward zero
 unfoldable pub halfF : Fixed → Fixed
 halfF a = fromBits (quotZ (a .bits) (pos 2))
 
--- "Midpoint is a + half(b − a)."
+-- the midpoint: half the way from a to b
 unfoldable pub midpointF : Fixed → Fixed → Fixed
 midpointF a b = addF a (halfF (subF b a))
 
--- "Output clears the low 10 bits."
+-- the output: the low 10 bits cleared
 unfoldable pub truncF : Fixed → Fixed
 truncF a = fromBits (clearLow 10 (a .bits))
 
--- The order is that of the bits, as tests.
+-- the order, as tests: that of the bits
 abbrev pub lessF : Fixed → Fixed → Bool
 lessF a b = ltZ (a .bits) (b .bits)
 
