@@ -1,0 +1,146 @@
+-- Stems and their edges (01, "Stems and masks", first paragraph).
+use mathlib.Core.Bool.{Bool, true, false, _&&_}
+use Prim.Native.Nat.{ℕ}
+use lib.IntN.{pos, negsuc}
+use Rattle.fixed.specs.declared.Fixed.{Fixed}
+use Rattle.fixed.specs.Fixed.{fromBits, subF, mulF, lessF, sameF, pickF}
+use Rattle.stems.specs.declared.edge.StemHint.{StemHint}
+use Rattle.stems.specs.declared.edge.Kind.{Kind}
+use Rattle.stems.specs.declared.edge.Kind.the-variants.{Absent, GhostBottom, GhostTop, PairBottom, PairTop}
+use Rattle.stems.specs.declared.edge.Hint.{Hint}
+use Rattle.stems.specs.declared.edge.Shape.{Shape}
+use Rattle.stems.specs.declared.edge.Shape.the-variants.{BottomGhost, TopGhost, Pair}
+
+-- ---- kinds of edges
+abbrev pub validK : Kind → Bool
+validK Absent = false
+validK GhostBottom = true
+validK GhostTop = true
+validK PairBottom = true
+validK PairTop = true
+
+abbrev pub bottomK : Kind → Bool
+bottomK Absent = false
+bottomK GhostBottom = true
+bottomK GhostTop = false
+bottomK PairBottom = true
+bottomK PairTop = false
+
+abbrev pub topK : Kind → Bool
+topK Absent = false
+topK GhostBottom = false
+topK GhostTop = true
+topK PairBottom = false
+topK PairTop = true
+
+abbrev pub pairK : Kind → Bool
+pairK Absent = false
+pairK GhostBottom = false
+pairK GhostTop = false
+pairK PairBottom = true
+pairK PairTop = true
+
+abbrev pub pairTopK : Kind → Bool
+pairTopK Absent = false
+pairTopK GhostBottom = false
+pairTopK GhostTop = false
+pairTopK PairBottom = false
+pairTopK PairTop = true
+
+abbrev pub isValid : Hint → Bool
+isValid e = validK (e .kind)
+
+abbrev pub isBottom : Hint → Bool
+isBottom e = bottomK (e .kind)
+
+abbrev pub isTop : Hint → Bool
+isTop e = topK (e .kind)
+
+abbrev pub isPair : Hint → Bool
+isPair e = pairK (e .kind)
+
+abbrev pub isPairTop : Hint → Bool
+isPairTop e = pairTopK (e .kind)
+
+-- ---- edges
+-- an unlocked edge of stem i: a kind, a character height h, and h·scale on the device
+abbrev pub hintAt : Kind → Fixed → ℕ → Fixed → Hint
+hintAt k h i s =
+    record {
+      kind = k;
+      locked = false;
+      synthetic = false;
+      index = i;
+      «cs_coord» = h;
+      «ds_coord» = mulF h s;
+      scale = s;
+    }
+
+-- the record that an unused place of a map holds
+abbrev pub noHint : Hint
+noHint =
+    record {
+      kind = Absent;
+      locked = false;
+      synthetic = false;
+      index = 0;
+      «cs_coord» = fromBits (pos 0);
+      «ds_coord» = fromBits (pos 0);
+      scale = fromBits (pos 0);
+    }
+
+-- the edge at another device height, and locked there
+abbrev pub withDevice : Bool → Hint → Fixed → Hint
+withDevice l e d =
+    record {
+      kind = e .kind;
+      locked = l;
+      synthetic = e .synthetic;
+      index = e .index;
+      «cs_coord» = e .«cs_coord»;
+      «ds_coord» = d;
+      scale = e .scale;
+    }
+
+abbrev pub atDevice : Hint → Fixed → Hint
+atDevice e d = withDevice (e .locked) e d
+
+abbrev pub lockedAt : Hint → Fixed → Hint
+lockedAt e d = withDevice true e d
+
+-- ---- a stem's edges
+-- by the width max − min: at −21.0 a bottom ghost at max, at −20.0 a top ghost at min, at any other below 0 a pair with its ends swapped
+abbrev pub shapeBy : Bool → Bool → Bool → StemHint → Shape
+shapeBy true t n s = BottomGhost (s .max)
+shapeBy false true n s = TopGhost (s .min)
+shapeBy false false true s = Pair (s .max) (s .min)
+shapeBy false false false s = Pair (s .min) (s .max)
+
+abbrev pub width : StemHint → Fixed
+width s = subF (s .max) (s .min)
+
+unfoldable pub shapeOf : StemHint → Shape
+shapeOf s =
+    shapeBy (sameF (width s) (fromBits (negsuc 1376255))) (sameF (width s) (fromBits (negsuc 1310719))) (lessF (width s) (fromBits (pos 0))) s
+
+-- the bottom edge (true) or the top edge of a shape; a ghost has no other
+unfoldable pub edgeOf : Shape → Bool → ℕ → Fixed → Hint
+edgeOf (BottomGhost h) true i s = hintAt GhostBottom h i s
+edgeOf (BottomGhost h) false i s = hintAt Absent (fromBits (pos 0)) i s
+edgeOf (TopGhost h) true i s = hintAt Absent (fromBits (pos 0)) i s
+edgeOf (TopGhost h) false i s = hintAt GhostTop h i s
+edgeOf (Pair b t) true i s = hintAt PairBottom b i s
+edgeOf (Pair b t) false i s = hintAt PairTop t i s
+
+-- the height that a used stem has saved for an edge
+abbrev pub savedFor : StemHint → Hint → Fixed
+savedFor s e = pickF (isTop e) (s .«ds_max») (s .«ds_min»)
+
+-- an edge of a used stem starts locked at the saved height
+abbrev pub usedBy : Bool → StemHint → Hint → Hint
+usedBy true s e = lockedAt e (savedFor s e)
+usedBy false s e = e
+
+-- stem number i's bottom edge (true) or top edge
+unfoldable pub setupOf : StemHint → ℕ → Fixed → Bool → Hint
+setupOf st i s b = usedBy (st .«is_used» && isValid (edgeOf (shapeOf st) b i s)) st (edgeOf (shapeOf st) b i s)

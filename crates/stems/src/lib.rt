@@ -1,0 +1,9 @@
+// Masks of active stems, stems, and the edges that a stem has (01, "Stems and masks").
+mod edge;
+mod mask;
+
+pub use edge::Hint;
+pub use edge::Kind;
+pub use edge::Shape;
+pub use edge::StemHint;
+pub use mask::HintMask;
