@@ -1,0 +1,12 @@
+// Blue zones, and the capture of a stem's edges by them (01, "Zones").
+mod blues;
+mod capture;
+mod state;
+
+pub use blues::Blue;
+pub use blues::BlueZone;
+pub use blues::Blues;
+pub use blues::Zones;
+pub use capture::Captured;
+pub use state::HintParams;
+pub use state::HintState;
