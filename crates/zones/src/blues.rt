@@ -1,11 +1,10 @@
-// Lists of pairs, the zones kept of them, and the flat edges that a family moves.
+// Lists of pairs, the zones kept of them, and their flat edges.
 use fixed::Fixed;
 ghost use mathlib.Core.Path.{_≡_};
 ghost use mathlib.Core.Bool.{Bool};
-ghost use mathlib.Core.List.{List};
 ghost use Prim.Native.Nat.{ℕ, _+_, _<_, _≤_};
-ghost use lib.ListN.{take};
-ghost use Rattle.zones.specs.Zones.{noZone, zoneOf, heightOf, noZones, pushed, keptIn, readIn, familyEdges, nearestEdge, movedFlat, deviceFlat};
+ghost use lib.ListN.{take, getD};
+ghost use Rattle.zones.specs.Zones.{heightOf, noBlue, noZone, zoneOf, noZones, pushed, keptIn, readIn, eachIn, familyEdge, familyFrom, nearer, nearestOf, movedFlat, deviceFlat};
 
 // A pair of character heights.
 pub struct Blue {
@@ -27,19 +26,24 @@ pub struct BlueZone {
     pub ds_flat_edge: Fixed,
 }
 
-// Zones as they are kept: at most seven of the blues and five of the other blues; the greatest height among them.
+// Zones as they are kept, with the greatest of their heights, or 0.
 pub struct Zones {
     pub list: [BlueZone; 12],
     pub count: usize,
     pub greatest: Fixed,
 }
 
+// The family edge nearest to a flat edge so far, and how far it is.
+pub struct Nearest {
+    pub edge: Fixed,
+    pub diff: Fixed,
+}
+
 impl Blue {
     pub fn height(self) -> Fixed
         ensures { λ r. ⌜ r ≡ heightOf self ⌝ }
     {
-        let bottom = self.bottom;
-        self.top.sub(bottom)
+        self.top.sub(self.bottom)
     }
 }
 
@@ -56,4 +60,198 @@ impl BlueZone {
             ds_flat_edge: Fixed::ZERO,
         }
     }
+
+    // From `build_zones`: the zone of a pair. A bottom zone is flat at its top, a top zone at its bottom.
+    pub fn new(pair: Blue, bottom: bool) -> BlueZone
+        ensures { λ r. ⌜ r ≡ zoneOf bottom pair ⌝ }
+    {
+        let low = pair.bottom;
+        let high = pair.top;
+        if bottom {
+            return BlueZone {
+                is_bottom: true,
+                cs_bottom_edge: low,
+                cs_top_edge: high,
+                cs_flat_edge: high,
+                ds_flat_edge: Fixed::ZERO,
+            };
+        }
+        BlueZone {
+            is_bottom: false,
+            cs_bottom_edge: low,
+            cs_top_edge: high,
+            cs_flat_edge: low,
+            ds_flat_edge: Fixed::ZERO,
+        }
+    }
+
+    // From `build_zones`: the flat edge moved to the family's nearest.
+    pub fn by_family(self, others: Blues, blues: Blues, limit: Fixed) -> BlueZone
+        requires { ⌜ (others .count ≤ 7) × (blues .count ≤ 7) ⌝ }
+        ensures { λ r. ⌜ r ≡ movedFlat others blues limit self ⌝ }
+    {
+        let flat = self.cs_flat_edge;
+        let mut zone = self;
+        if self.is_bottom {
+            let near = others.nearest(flat, limit, true);
+            zone.cs_flat_edge = near;
+            return zone;
+        }
+        let near = blues.nearest(flat, limit, false);
+        zone.cs_flat_edge = near;
+        zone
+    }
+
+    // From `build_zones`: the flat edge on the device. The boost goes away from the glyph's middle.
+    pub fn on_device(self, scale: Fixed, boost: Fixed) -> BlueZone
+        ensures { λ r. ⌜ r ≡ deviceFlat scale boost self ⌝ }
+    {
+        let flat = self.cs_flat_edge.mul(scale);
+        let mut zone = self;
+        if self.is_bottom {
+            let device = flat.add(boost.neg()).round();
+            zone.ds_flat_edge = device;
+            return zone;
+        }
+        let device = flat.add(boost).round();
+        zone.ds_flat_edge = device;
+        zone
+    }
+}
+
+impl Zones {
+    pub fn none() -> Zones
+        ensures { λ r. ⌜ r ≡ noZones ⌝ }
+    {
+        let none = BlueZone::none();
+        Zones {
+            list: [none; 12],
+            count: 0,
+            greatest: Fixed::ZERO,
+        }
+    }
+
+    // One zone more.
+    pub fn push(self, zone: BlueZone, height: Fixed) -> Zones
+        requires { ⌜ self .count < 12 ⌝ }
+        ensures { λ r. ⌜ r ≡ pushed self zone height ⌝ }
+    {
+        let mut zones = self;
+        let at = zones.count;
+        zones.list[at] = zone;
+        zones.count = at + 1;
+        let greatest = zones.greatest.max(height);
+        zones.greatest = greatest;
+        zones
+    }
+
+    // From `build_zones`: a pair is kept unless its height is negative. The first zone of all is a bottom zone, and so is one of the other blues.
+    pub fn keep(self, pair: Blue, other: bool) -> Zones
+        requires { ⌜ self .count < 12 ⌝ }
+        ensures { λ r. ⌜ r ≡ keptIn other self pair ⌝ }
+    {
+        let height = pair.height();
+        if height.less(Fixed::ZERO) {
+            return self;
+        }
+        if other {
+            return self.push(BlueZone::new(pair, true), height);
+        }
+        self.push(BlueZone::new(pair, self.count == 0), height)
+    }
+
+    // From `build_zones`: the first n pairs of a list.
+    pub fn read(self, blues: Blues, n: usize, other: bool) -> Zones
+        requires { ⌜ (n ≤ 7) × (self .count + n ≤ 12) ⌝ }
+        ensures { λ r. ⌜ r ≡ readIn other self (take n (blues .pairs)) ⌝ }
+    {
+        let mut zones = self;
+        for i in 0..n {
+            let pair = blues.pairs[i];
+            zones = zones.keep(pair, other);
+        }
+        zones
+    }
+
+    // From `build_zones`: every flat edge by the family, then on the device.
+    pub fn finish(
+        self,
+        others: Blues,
+        blues: Blues,
+        limit: Fixed,
+        scale: Fixed,
+        boost: Fixed,
+    ) -> Zones
+        requires { ⌜ (self .count ≤ 12) × ((others .count ≤ 7) × (blues .count ≤ 7)) ⌝ }
+        ensures { λ r. ⌜ r ≡ eachIn (λ z. deviceFlat scale boost (movedFlat others blues limit z)) self ⌝ }
+    {
+        let mut zones = self;
+        let count = zones.count;
+        for i in 0..count {
+            let zone = zones.list[i];
+            zones.list[i] = zone.by_family(others, blues, limit).on_device(scale, boost);
+        }
+        zones
+    }
+}
+
+impl Nearest {
+    // From `build_zones`: a family edge that counts and is nearer takes the place.
+    pub fn with(self, flat: Fixed, limit: Fixed, edge: Fixed) -> Nearest
+        ensures { λ r. ⌜ r ≡ nearer flat limit self edge ⌝ }
+    {
+        let diff = flat.sub(edge).abs();
+        if !diff.less(self.diff) {
+            return self;
+        }
+        if !diff.less(limit) {
+            return self;
+        }
+        Nearest { edge, diff }
+    }
+}
+
+impl Blues {
+    // The edge of pair i that a family gives: the top for bottom zones, the bottom for top zones.
+    pub fn edge(self, i: usize, bottom: bool) -> Fixed
+        requires { ⌜ i < 7 ⌝ }
+        ensures { λ r. ⌜ r ≡ familyEdge bottom (getD (self .pairs) i noBlue) ⌝ }
+    {
+        let pair = self.pairs[i];
+        if bottom {
+            return pair.top;
+        }
+        pair.bottom
+    }
+
+    // From `build_zones`: the family edge nearest to a flat edge, or that flat edge. For top zones the first pair is passed over.
+    pub fn nearest(self, flat: Fixed, limit: Fixed, bottom: bool) -> Fixed
+        requires { ⌜ self .count ≤ 7 ⌝ }
+        ensures { λ r. ⌜ r ≡ nearestOf bottom self flat limit ⌝ }
+    {
+        let count = self.count;
+        let mut near = Nearest {
+            edge: flat,
+            diff: Fixed::MAX,
+        };
+        let mut i = first_for(bottom);
+        while i < count {
+            if near.diff.same(Fixed::ZERO) {
+                return near.edge;
+            }
+            near = near.with(flat, limit, self.edge(i, bottom));
+            i += 1;
+        }
+        near.edge
+    }
+}
+
+// The first pair of a family's list that counts: of the other blues the first, of the blues the second.
+fn first_for(bottom: bool) -> usize
+    ensures { λ r. ⌜ r ≡ familyFrom bottom ⌝ }
+{
+    if bottom {
+        return 0;
+    }
+    1
 }

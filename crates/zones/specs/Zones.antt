@@ -1,0 +1,173 @@
+-- Zones (01, "Zones"): the pairs, and what the first two steps and the last make of them.
+use mathlib.Core.Bool.{Bool, true, false, not, _&&_, _||_}
+use mathlib.Core.List.{List, [], _∷_, _++_, map}
+use Prim.Native.Nat.{ℕ, zero, suc, _+_, _-_}
+use lib.Dec.{eqb}
+use lib.IntN.{pos}
+use lib.ListN.{length, take, drop, set, replicate}
+use Rattle.fixed.specs.declared.Fixed.{Fixed}
+use Rattle.fixed.specs.Fixed.{fromBits, addF, subF, negF, absF, mulF, roundF, lessF, sameF, maxF, pickF}
+use Rattle.zones.specs.declared.blues.Blue.{Blue}
+use Rattle.zones.specs.declared.blues.Blues.{Blues}
+use Rattle.zones.specs.declared.blues.BlueZone.{BlueZone}
+use Rattle.zones.specs.declared.blues.Zones.{Zones}
+use Rattle.zones.specs.declared.blues.Nearest.{Nearest}
+
+abbrev pub none : Fixed
+none = fromBits (pos 0)
+
+abbrev pub noBlue : Blue
+noBlue = record { bottom = none; top = none }
+
+-- the pairs of a list
+abbrev pub listOf : Blues → List Blue
+listOf bs = take (bs .count) (bs .pairs)
+
+-- top − bottom
+abbrev pub heightOf : Blue → Fixed
+heightOf b = subF (b .top) (b .bottom)
+
+-- ---- step 1: the zones kept
+-- a bottom zone (true) is flat at its top, a top zone at its bottom
+abbrev pub zoneOf : Bool → Blue → BlueZone
+zoneOf bottom b =
+    record {
+      «is_bottom» = bottom;
+      «cs_bottom_edge» = b .bottom;
+      «cs_top_edge» = b .top;
+      «cs_flat_edge» = pickF bottom (b .top) (b .bottom);
+      «ds_flat_edge» = none;
+    }
+
+abbrev pub consBy : Bool → Blue → List Blue → List Blue
+consBy true b bs = bs
+consBy false b bs = b ∷ bs
+
+-- the pairs whose height is not negative
+unfoldable pub sift : List Blue → List Blue
+sift [] = []
+sift (b ∷ bs) = consBy (lessF (heightOf b) none) b (sift bs)
+
+-- of the blues the first is a bottom zone, the later ones top zones
+unfoldable pub bluesZones : List Blue → List BlueZone
+bluesZones [] = []
+bluesZones (b ∷ bs) = zoneOf true b ∷ map (zoneOf false) bs
+
+-- blues in order, then the first five other blues, which are bottom zones
+unfoldable pub kept : Blues → Blues → List BlueZone
+kept blues others = bluesZones (sift (listOf blues)) ++ map (zoneOf true) (sift (take 5 (listOf others)))
+
+-- the greatest height of some zones, or 0
+unfoldable pub greatestFrom : Fixed → List BlueZone → Fixed
+greatestFrom g [] = g
+greatestFrom g (z ∷ zs) = greatestFrom (maxF g (subF (z .«cs_top_edge») (z .«cs_bottom_edge»))) zs
+
+-- ---- step 2: the family
+-- the edges that a family's pairs have for bottom zones (true), and for top zones, which pass over the first pair
+abbrev pub familyEdge : Bool → Blue → Fixed
+familyEdge bottom b = pickF bottom (b .top) (b .bottom)
+
+abbrev pub familyFrom : Bool → ℕ
+familyFrom true = 0
+familyFrom false = 1
+
+abbrev pub familyEdges : Bool → Blues → List Fixed
+familyEdges bottom bs = map (familyEdge bottom) (drop (familyFrom bottom) (listOf bs))
+
+abbrev pub distance : Fixed → Fixed → Fixed
+distance flat edge = absF (subF flat edge)
+
+abbrev pub nearerBy : Bool → Nearest → Fixed → Fixed → Nearest
+nearerBy true n edge d = record { edge = edge; diff = d }
+nearerBy false n edge d = n
+
+-- an edge takes the place of the nearest so far where it is nearer, and less than the limit away
+unfoldable pub nearer : Fixed → Fixed → Nearest → Fixed → Nearest
+nearer flat limit n edge =
+    nearerBy (lessF (distance flat edge) (n .diff) && lessF (distance flat edge) limit) n edge (distance flat edge)
+
+-- the search, which a distance of 0 ends
+abbrev pub endedBy : Bool → Fixed → Fixed → Fixed
+endedBy true found more = found
+endedBy false found more = more
+
+unfoldable pub search : Fixed → Fixed → Nearest → List Fixed → Fixed
+search flat limit n [] = n .edge
+search flat limit n (x ∷ xs) = endedBy (sameF (n .diff) none) (n .edge) (search flat limit (nearer flat limit n x) xs)
+
+abbrev pub unmoved : Fixed → Nearest
+unmoved flat = record { edge = flat; diff = fromBits (pos 2147483647) }
+
+unfoldable pub nearestOf : Bool → Blues → Fixed → Fixed → Fixed
+nearestOf bottom bs flat limit = search flat limit (unmoved flat) (familyEdges bottom bs)
+
+abbrev pub withFlat : BlueZone → Fixed → BlueZone
+withFlat z flat =
+    record {
+      «is_bottom» = z .«is_bottom»;
+      «cs_bottom_edge» = z .«cs_bottom_edge»;
+      «cs_top_edge» = z .«cs_top_edge»;
+      «cs_flat_edge» = flat;
+      «ds_flat_edge» = z .«ds_flat_edge»;
+    }
+
+abbrev pub movedBy : Bool → Blues → Blues → Fixed → BlueZone → BlueZone
+movedBy true others blues limit z = withFlat z (nearestOf true others (z .«cs_flat_edge») limit)
+movedBy false others blues limit z = withFlat z (nearestOf false blues (z .«cs_flat_edge») limit)
+
+-- a bottom zone goes by the family's other blues, a top zone by its blues
+unfoldable pub movedFlat : Blues → Blues → Fixed → BlueZone → BlueZone
+movedFlat others blues limit z = movedBy (z .«is_bottom») others blues limit z
+
+-- ---- step 5: the flat edge on the device
+abbrev pub withDeviceFlat : BlueZone → Fixed → BlueZone
+withDeviceFlat z d =
+    record {
+      «is_bottom» = z .«is_bottom»;
+      «cs_bottom_edge» = z .«cs_bottom_edge»;
+      «cs_top_edge» = z .«cs_top_edge»;
+      «cs_flat_edge» = z .«cs_flat_edge»;
+      «ds_flat_edge» = d;
+    }
+
+-- round(flat·scale + boost), with the boost negated for bottom zones
+unfoldable pub deviceFlat : Fixed → Fixed → BlueZone → BlueZone
+deviceFlat s boost z = withDeviceFlat z (roundF (addF (mulF (z .«cs_flat_edge») s) (pickF (z .«is_bottom») (negF boost) boost)))
+
+-- ---- zones held by value
+abbrev pub noZone : BlueZone
+noZone = zoneOf false noBlue
+
+-- some zones, at most twelve, and the greatest height
+abbrev pub filled : List BlueZone → List BlueZone
+filled zs = zs ++ replicate (12 - length zs) noZone
+
+abbrev pub packed : List BlueZone → Zones
+packed zs = record { list = filled zs; count = length zs; greatest = greatestFrom none zs }
+
+abbrev pub noZones : Zones
+noZones = packed []
+
+abbrev pub pushed : Zones → BlueZone → Fixed → Zones
+pushed q z h = record { list = set (q .list) (q .count) z; count = q .count + 1; greatest = maxF (q .greatest) h }
+
+abbrev pub keptBy : Bool → Bool → Zones → Blue → Zones
+keptBy true bottom q b = q
+keptBy false bottom q b = pushed q (zoneOf bottom b) (heightOf b)
+
+-- one pair read: of the other blues (true) or of the blues
+unfoldable pub keptIn : Bool → Zones → Blue → Zones
+keptIn other q b = keptBy (lessF (heightOf b) none) (other || eqb (q .count) 0) q b
+
+unfoldable pub readIn : Bool → Zones → List Blue → Zones
+readIn other q [] = q
+readIn other q (b ∷ bs) = readIn other (keptIn other q b) bs
+
+-- every zone changed alike
+abbrev pub eachIn : (BlueZone → BlueZone) → Zones → Zones
+eachIn f q =
+    record {
+      list = map f (take (q .count) (q .list)) ++ drop (q .count) (q .list);
+      count = q .count;
+      greatest = q .greatest;
+    }

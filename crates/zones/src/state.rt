@@ -1,0 +1,157 @@
+// What a font's parameters and a scale make: the zones on the device and how overshoot is treated.
+use crate::blues::BlueZone;
+use crate::blues::Blues;
+use crate::blues::Zones;
+use fixed::Fixed;
+ghost use mathlib.Core.Path.{_≡_};
+ghost use mathlib.Core.Bool.{Bool};
+ghost use Prim.Native.Nat.{ℕ, _+_, _<_, _≤_};
+ghost use lib.ListN.{take};
+ghost use lib.IntN.{pos};
+ghost use lib.Signed.{_<ℤ_};
+ghost use Rattle.zones.specs.Zones.{packed};
+ghost use Rattle.zones.specs.State.{Counted, emBox, keptOf, clampedScale, boostOf, stateOf};
+
+pub struct HintParams {
+    pub blue_scale: Fixed,
+    pub blue_shift: Fixed,
+    pub blue_fuzz: Fixed,
+    pub language_group: i32,
+    pub blues: Blues,
+    pub other_blues: Blues,
+    pub family_blues: Blues,
+    pub family_other_blues: Blues,
+}
+
+pub struct HintState {
+    pub scale: Fixed,
+    pub blue_scale: Fixed,
+    pub blue_shift: Fixed,
+    pub blue_fuzz: Fixed,
+    pub suppress_overshoot: bool,
+    pub do_em_box_hints: bool,
+    pub boost: Fixed,
+    pub zones: [BlueZone; 12],
+    pub zone_count: usize,
+}
+
+// The em box, from −120.0 to 880.0.
+const ICF_BOTTOM: Fixed = Fixed { bits: -0x78_0000 };
+
+const ICF_TOP: Fixed = Fixed { bits: 0x370_0000 };
+
+impl HintParams {
+    // From `build_zones`: the glyph is fitted to the em box and not to zones.
+    pub fn em_box(self) -> bool
+        ensures { λ r. ⌜ r ≡ emBox self ⌝ }
+    {
+        if self.language_group != 1 {
+            return false;
+        }
+        let blues = self.blues;
+        if blues.count == 0 {
+            return true;
+        }
+        if blues.count != 2 {
+            return false;
+        }
+        let low = blues.pairs[0];
+        let high = blues.pairs[1];
+        if !low.bottom.less(ICF_BOTTOM) {
+            return false;
+        }
+        if !low.top.less(ICF_BOTTOM) {
+            return false;
+        }
+        if !ICF_TOP.less(high.bottom) {
+            return false;
+        }
+        ICF_TOP.less(high.top)
+    }
+
+    // From `build_zones`: the zones kept of the blues and of the first five other blues.
+    pub fn kept(self) -> Zones
+        requires { ⌜ Counted self ⌝ }
+        ensures { λ r. ⌜ r ≡ packed (keptOf self) ⌝ }
+    {
+        let blues = self.blues;
+        let others = self.other_blues;
+        let zones = Zones::none().read(blues, blues.count, false);
+        if 5 < others.count {
+            return zones.read(others, 5, true);
+        }
+        zones.read(others, others.count, true)
+    }
+}
+
+// From `build_zones`: no greater than one pixel for the highest zone.
+fn clamped(blue_scale: Fixed, greatest: Fixed) -> Fixed
+    ensures { λ r. ⌜ r ≡ clampedScale «blue_scale» greatest ⌝ }
+{
+    if !Fixed::ZERO.less(greatest) {
+        return blue_scale;
+    }
+    let most = Fixed::ONE.div(greatest);
+    if most.less(blue_scale) {
+        return most;
+    }
+    blue_scale
+}
+
+// From `build_zones`: how far flat edges are pushed out where overshoot is suppressed.
+fn boost_at(scale: Fixed, blue_scale: Fixed) -> Fixed
+    requires { ⌜ pos 0 <ℤ scale .bits ⌝ }
+    ensures { λ r. ⌜ r ≡ boostOf scale «blue_scale» ⌝ }
+{
+    if scale.less(blue_scale) {
+        let full = Fixed { bits: 39322 };
+        return full.sub(full.mul_div(scale, blue_scale))
+            .min(Fixed { bits: 0x7fff });
+    }
+    Fixed::ZERO
+}
+
+impl HintState {
+    // Ports `HintState::new` and `build_zones`.
+    pub fn new(params: HintParams, scale: Fixed) -> HintState
+        requires { ⌜ Counted params × (pos 0 <ℤ scale .bits) ⌝ }
+        ensures { λ r. ⌜ r ≡ stateOf params scale ⌝ }
+    {
+        let blue_scale = params.blue_scale;
+        let blue_shift = params.blue_shift;
+        let blue_fuzz = params.blue_fuzz;
+        if params.em_box() {
+            let none = BlueZone::none();
+            return HintState {
+                scale,
+                blue_scale,
+                blue_shift,
+                blue_fuzz,
+                suppress_overshoot: false,
+                do_em_box_hints: true,
+                boost: Fixed::ZERO,
+                zones: [none; 12],
+                zone_count: 0,
+            };
+        }
+        let kept = params.kept();
+        let most = clamped(blue_scale, kept.greatest);
+        let boost = boost_at(scale, most);
+        let others = params.family_other_blues;
+        let blues = params.family_blues;
+        let limit = Fixed::ONE.div(scale);
+        let done = kept.finish(others, blues, limit, scale, boost);
+        let zones = done.list;
+        HintState {
+            scale,
+            blue_scale: most,
+            blue_shift,
+            blue_fuzz,
+            suppress_overshoot: scale.less(most),
+            do_em_box_hints: false,
+            boost,
+            zones,
+            zone_count: done.count,
+        }
+    }
+}
