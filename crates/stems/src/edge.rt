@@ -1,7 +1,6 @@
 // Stems, and a stem's edges.
 use fixed::Fixed;
 ghost use mathlib.Core.Path.{_≡_};
-ghost use mathlib.Core.Bool.{Bool};
 ghost use Rattle.stems.specs.Edge.{noHint, hintAt, isValid, isBottom, isTop, isPair, isPairTop, atDevice, lockedAt, shapeOf, edgeOf, setupOf};
 
 pub struct StemHint {

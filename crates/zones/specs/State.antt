@@ -1,18 +1,16 @@
 -- The state that parameters and a scale make (01, "Zones").
 use mathlib.Core.Bool.{Bool, true, false, _&&_, _||_}
 use mathlib.Core.List.{List, [], map}
-use Prim.Native.Nat.{ℕ, _≤_}
+use Prim.Native.Nat.{_≤_}
 use lib.Dec.{eqb}
 use lib.IntN.{ℤ, pos, negsuc}
 use lib.ListN.{length, getD}
 use Rattle.fixed.specs.declared.Fixed.{Fixed}
 use Rattle.fixed.specs.Fixed.{fromBits, subF, divF, mulDivF, lessF, minF, pickF}
-use Rattle.zones.specs.declared.blues.Blue.{Blue}
 use Rattle.zones.specs.declared.blues.BlueZone.{BlueZone}
-use Rattle.zones.specs.declared.blues.Zones.{Zones}
 use Rattle.zones.specs.declared.state.HintParams.{HintParams}
 use Rattle.zones.specs.declared.state.HintState.{HintState}
-use Rattle.zones.specs.Zones.{none, noBlue, kept, greatestFrom, movedFlat, deviceFlat, filled}
+use Rattle.zones.specs.Zones.{none, noBlue, whollyBelow, whollyAbove, kept, greatestFrom, movedFlat, deviceFlat, filled}
 
 -- what opening ensures of every list
 pub record Counted (p : HintParams) : Type 0 where
@@ -28,13 +26,6 @@ one = fromBits (pos 65536)
 abbrev pub isOne : ℤ → Bool
 isOne (pos n) = eqb n 1
 isOne (negsuc n) = false
-
--- both ends below a height, both above
-abbrev pub whollyBelow : Fixed → Blue → Bool
-whollyBelow h b = lessF (b .bottom) h && lessF (b .top) h
-
-abbrev pub whollyAbove : Fixed → Blue → Bool
-whollyAbove h b = lessF h (b .bottom) && lessF h (b .top)
 
 -- group 1 with no blues pairs, or with two, the first wholly below −120.0 and the second wholly above 880.0
 unfoldable pub emBox : HintParams → Bool

@@ -1,7 +1,7 @@
 -- Zones (01, "Zones"): the pairs, and what the first two steps and the last make of them.
-use mathlib.Core.Bool.{Bool, true, false, not, _&&_, _||_}
+use mathlib.Core.Bool.{Bool, true, false, _&&_, _||_}
 use mathlib.Core.List.{List, [], _∷_, _++_, map}
-use Prim.Native.Nat.{ℕ, zero, suc, _+_, _-_}
+use Prim.Native.Nat.{ℕ, _+_, _-_}
 use lib.Dec.{eqb}
 use lib.IntN.{pos}
 use lib.ListN.{length, take, drop, set, replicate}
@@ -26,6 +26,13 @@ listOf bs = take (bs .count) (bs .pairs)
 -- top − bottom
 abbrev pub heightOf : Blue → Fixed
 heightOf b = subF (b .top) (b .bottom)
+
+-- both ends below a height, both above
+abbrev pub whollyBelow : Fixed → Blue → Bool
+whollyBelow h b = lessF (b .bottom) h && lessF (b .top) h
+
+abbrev pub whollyAbove : Fixed → Blue → Bool
+whollyAbove h b = lessF h (b .bottom) && lessF h (b .top)
 
 -- ---- step 1: the zones kept
 -- a bottom zone (true) is flat at its top, a top zone at its bottom
@@ -86,20 +93,20 @@ unfoldable pub nearer : Fixed → Fixed → Nearest → Fixed → Nearest
 nearer flat limit n edge =
     nearerBy (lessF (distance flat edge) (n .diff) && lessF (distance flat edge) limit) n edge (distance flat edge)
 
--- the search, which a distance of 0 ends
+-- the nearestFrom, which a distance of 0 ends
 abbrev pub endedBy : Bool → Fixed → Fixed → Fixed
 endedBy true found more = found
 endedBy false found more = more
 
-unfoldable pub search : Fixed → Fixed → Nearest → List Fixed → Fixed
-search flat limit n [] = n .edge
-search flat limit n (x ∷ xs) = endedBy (sameF (n .diff) none) (n .edge) (search flat limit (nearer flat limit n x) xs)
+unfoldable pub nearestFrom : Fixed → Fixed → Nearest → List Fixed → Fixed
+nearestFrom flat limit n [] = n .edge
+nearestFrom flat limit n (x ∷ xs) = endedBy (sameF (n .diff) none) (n .edge) (nearestFrom flat limit (nearer flat limit n x) xs)
 
 abbrev pub unmoved : Fixed → Nearest
 unmoved flat = record { edge = flat; diff = fromBits (pos 2147483647) }
 
 unfoldable pub nearestOf : Bool → Blues → Fixed → Fixed → Fixed
-nearestOf bottom bs flat limit = search flat limit (unmoved flat) (familyEdges bottom bs)
+nearestOf bottom bs flat limit = nearestFrom flat limit (unmoved flat) (familyEdges bottom bs)
 
 abbrev pub withFlat : BlueZone → Fixed → BlueZone
 withFlat z flat =

@@ -1,10 +1,9 @@
 // Lists of pairs, the zones kept of them, and their flat edges.
 use fixed::Fixed;
 ghost use mathlib.Core.Path.{_≡_};
-ghost use mathlib.Core.Bool.{Bool};
-ghost use Prim.Native.Nat.{ℕ, _+_, _<_, _≤_};
+ghost use Prim.Native.Nat.{_+_, _<_, _≤_};
 ghost use lib.ListN.{take, getD};
-ghost use Rattle.zones.specs.Zones.{heightOf, noBlue, noZone, zoneOf, noZones, pushed, keptIn, readIn, eachIn, familyEdge, familyFrom, nearer, nearestOf, movedFlat, deviceFlat};
+ghost use Rattle.zones.specs.Zones.{heightOf, whollyBelow, whollyAbove, noBlue, noZone, zoneOf, noZones, pushed, keptIn, readIn, eachIn, familyEdge, familyFrom, nearer, nearestOf, movedFlat, deviceFlat};
 
 // A pair of character heights.
 pub struct Blue {
@@ -44,6 +43,26 @@ impl Blue {
         ensures { λ r. ⌜ r ≡ heightOf self ⌝ }
     {
         self.top.sub(self.bottom)
+    }
+
+    // Both ends lie below a height.
+    pub fn wholly_below(self, height: Fixed) -> bool
+        ensures { λ r. ⌜ r ≡ whollyBelow height self ⌝ }
+    {
+        if !self.bottom.less(height) {
+            return false;
+        }
+        self.top.less(height)
+    }
+
+    // Both ends lie above a height.
+    pub fn wholly_above(self, height: Fixed) -> bool
+        ensures { λ r. ⌜ r ≡ whollyAbove height self ⌝ }
+    {
+        if !height.less(self.bottom) {
+            return false;
+        }
+        height.less(self.top)
     }
 }
 

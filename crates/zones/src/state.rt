@@ -4,9 +4,7 @@ use crate::blues::Blues;
 use crate::blues::Zones;
 use fixed::Fixed;
 ghost use mathlib.Core.Path.{_≡_};
-ghost use mathlib.Core.Bool.{Bool};
-ghost use Prim.Native.Nat.{ℕ, _+_, _<_, _≤_};
-ghost use lib.ListN.{take};
+ghost use Prim.Native.Nat.{_<_};
 ghost use lib.IntN.{pos};
 ghost use lib.Signed.{_<ℤ_};
 ghost use Rattle.zones.specs.Zones.{packed};
@@ -57,16 +55,10 @@ impl HintParams {
         }
         let low = blues.pairs[0];
         let high = blues.pairs[1];
-        if !low.bottom.less(ICF_BOTTOM) {
+        if !low.wholly_below(ICF_BOTTOM) {
             return false;
         }
-        if !low.top.less(ICF_BOTTOM) {
-            return false;
-        }
-        if !ICF_TOP.less(high.bottom) {
-            return false;
-        }
-        ICF_TOP.less(high.top)
+        high.wholly_above(ICF_TOP)
     }
 
     // From `build_zones`: the zones kept of the blues and of the first five other blues.

@@ -1,0 +1,69 @@
+-- Laws of the nearestFrom among a family's edges, and of zones changed one after the other. Assumes nothing.
+use mathlib.Core.Path.{_≡_, refl, ap}
+use mathlib.Core.Bool.{Bool, true, false}
+use mathlib.Core.List.{List, [], _∷_, _++_, map}
+use Prim.Native.Nat.{ℕ, zero, suc, _+_, _≤_, _<_}
+use native.Mathlib.Numerals.{add-one}
+use native.Mathlib.Omega.{arith}
+use lib.ListN.{length, take, drop, getD, set, length-take, drop-of-length-le}
+use lib.Seq.{drop-cons, getD-take}
+use Rattle.fixed.specs.declared.Fixed.{Fixed}
+use Rattle.fixed.specs.Fixed.{sameF}
+use Rattle.zones.specs.declared.blues.Blues.{Blues}
+use Rattle.zones.specs.declared.blues.BlueZone.{BlueZone}
+use Rattle.zones.specs.declared.blues.Zones.{Zones}
+use Rattle.zones.specs.declared.blues.Nearest.{Nearest}
+use Rattle.zones.specs.Zones.{none, noBlue, listOf, familyEdge, nearer, nearestFrom, endedBy}
+
+-- the nearestFrom from pair i on
+abbrev pub searchFrom : Bool → Blues → Fixed → Fixed → Nearest → ℕ → Fixed
+searchFrom bottom bs flat limit near i = nearestFrom flat limit near (map (familyEdge bottom) (drop i (listOf bs)))
+
+module _ (bottom : Bool) (bs : Blues) (fits : bs .count ≤ length (bs .pairs)) (flat limit : Fixed) (near : Nearest) (i : ℕ) where
+  -- it takes in pair i, unless the nearest so far ends it
+  search-at : i < bs .count →
+      searchFrom bottom bs flat limit near i ≡
+      endedBy (sameF (near .diff) none) (near .edge) (searchFrom bottom bs flat limit (nearer flat limit near (familyEdge bottom (getD (bs .pairs) i noBlue))) (i + 1))
+  unfolding nearestFrom
+  search-at l =
+      let k : i < length (listOf bs) = simp length-take (omega arith) in
+      rw (drop-cons (listOf bs) i noBlue k, getD-take (bs .count) (bs .pairs) i noBlue l, add-one i)
+
+  -- a distance of 0 ends it
+  pub search-found : i < bs .count → sameF (near .diff) none ≡ true → searchFrom bottom bs flat limit near i ≡ near .edge
+  search-found l t = rw (search-at l, t)
+
+  -- any other distance lets it take in pair i
+  pub search-goes : i < bs .count → sameF (near .diff) none ≡ false →
+      searchFrom bottom bs flat limit near i ≡ searchFrom bottom bs flat limit (nearer flat limit near (familyEdge bottom (getD (bs .pairs) i noBlue))) (i + 1)
+  search-goes l t = rw (search-at l, t)
+
+  -- the end of the list ends it
+  pub search-ends : bs .count ≤ i → searchFrom bottom bs flat limit near i ≡ near .edge
+  unfolding nearestFrom
+  search-ends l =
+      let k : length (listOf bs) ≤ i = simp length-take (omega arith) in
+      rw (drop-of-length-le (listOf bs) k)
+
+-- the zones before i changed alike; at the count this is `eachIn`
+abbrev pub eachBefore : (BlueZone → BlueZone) → Zones → ℕ → Zones
+eachBefore f q i =
+    record {
+      list = map f (take i (q .list)) ++ drop i (q .list);
+      count = q .count;
+      greatest = q .greatest;
+    }
+
+-- where the zones before i are changed, changing zone i too leaves those before i + 1 changed: of a list
+each-set : (f : BlueZone → BlueZone) (zs : List BlueZone) (i : ℕ) (d : BlueZone) →
+    let before = map f (take i zs) ++ drop i zs in
+    set before i (f (getD before i d)) ≡ map f (take (suc i) zs) ++ drop (suc i) zs
+each-set f [] zero d = refl
+each-set f [] (suc i) d = refl
+each-set f (z ∷ zs) zero d = refl
+each-set f (z ∷ zs) (suc i) d = ap (λ l. f z ∷ l) (each-set f zs i d)
+
+-- and of the zones held by value
+pub each-more : (f : BlueZone → BlueZone) (q : Zones) (i : ℕ) (d : BlueZone) {p : Zones} → p ≡ eachBefore f q i →
+    _≡_ {A = Zones} (record { list = set (p .list) i (f (getD (p .list) i d)); count = p .count; greatest = p .greatest }) (eachBefore f q (i + 1))
+each-more f q i d e = rw (e, add-one i, each-set f (q .list) i d)

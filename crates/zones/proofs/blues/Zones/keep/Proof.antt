@@ -1,0 +1,59 @@
+-- `Zones::keep` meets its contract, by the test of the height. Assumes nothing.
+use borrow.Author.Needs.{needs}
+use mathlib.Core.Path.{_≡_, sym, _∙_}
+use Rattle.fixed.specs.Fixed.{lessF}
+use Rattle.zones.specs.Zones.{none, heightOf, keptIn}
+use Rattle.zones.proofs.blues.Zones.keep.Statement.{statement}
+use Rattle.zones.proofs.blues.Zones.keep.Tie as tie
+
+-- what the test says
+tested : (c : tie.After-less) → lessF (heightOf (c .before .before .args .pair)) none ≡ c .less .result
+tested c = sym (c .less .ensures ∙ rw (c .before .height .ensures))
+
+height-requires : tie.Need-height-requires
+height-requires c κs = search needs
+
+less-requires : tie.Need-less-requires
+less-requires c κs = search needs
+
+returns : tie.Need-returns
+unfolding keptIn
+returns c = rw (tested (c .before) ∙ c .if1 .taken)
+
+new-requires : tie.Need-new-requires
+new-requires c κs = search needs
+
+push-requires : tie.Need-push-requires
+push-requires c κs = search needs
+
+returns-2 : tie.Need-returns-2
+unfolding keptIn
+returns-2 c =
+    let e = c .before .before .before in
+    rw (tested (e .before) ∙ e .if1 .left, c .before .before .if2 .taken) (c .push .ensures ∙ rw (c .before .new .ensures, e .before .before .height .ensures))
+
+new-requires-2 : tie.Need-new-requires-2
+new-requires-2 c κs = search needs
+
+push-requires-2 : tie.Need-push-requires-2
+push-requires-2 c κs = search needs
+
+returns-3 : tie.Need-returns-3
+unfolding keptIn
+returns-3 c =
+    let e = c .before .before .before .before in
+    rw (tested (e .before) ∙ e .if1 .left, c .before .before .before .if2 .left) (c .push2 .ensures ∙ rw (c .before .new2 .ensures, e .before .before .height .ensures))
+
+pub keep-spec : {M : Type 1} → statement M
+keep-spec =
+    tie.close
+    (tie.spec
+    height-requires
+    less-requires
+    returns
+    new-requires
+    push-requires
+    returns-2
+    new-requires-2
+    push-requires-2
+    returns-3)
