@@ -1,23 +1,66 @@
 -- The figures that 01 stars ("Marked figures"), in one list: beside what 01 says stands what the definitions give. A later part adds its rows here.
-use mathlib.Core.List.{List, [], _∷_}
-use lib.IntN.{ℤ, pos, negsuc}
+use mathlib.Core.Path.{_≡_}
+use mathlib.Core.Bool.{Bool, true, false}
+use mathlib.Core.List.{List, [], _∷_, _++_}
+use Prim.Native.Nat.{ℕ, zero, suc, _*_}
+use lib.IntN.{pos, negsuc}
+use lib.ListN.{replicate}
 use Rattle.fixed.specs.declared.Fixed.{Fixed}
 use Rattle.fixed.specs.Fixed.{fromBits, mulF, roundF, truncF}
+use Rattle.stems.specs.declared.mask.HintMask.{HintMask}
+use Rattle.stems.specs.declared.edge.StemHint.{StemHint}
+use Rattle.stems.specs.declared.edge.Shape.{Shape}
+use Rattle.stems.specs.declared.edge.Shape.the-variants.{BottomGhost, TopGhost, Pair}
+use Rattle.stems.specs.Mask.{maskOf, isActive}
+use Rattle.stems.specs.Edge.{shapeOf}
+use Rattle.zones.specs.State.{boostOf}
 
--- a figure: the numbers that 01 says, and those that the definitions give
-pub record Row : Type 0 where
-  pub said : List ℤ
-  pub given : List ℤ
+-- a figure: what 01 says, and what the definitions give
+pub record Row : Type 1 where
+  pub Of : Type 0
+  pub said : Of
+  pub given : Of
 
-abbrev bits : Fixed → ℤ
-bits a = a .bits
+-- every figure of a list is what the definitions give
+abbrev pub AllHold : List Row → Type 0
+AllHold [] = Unit {0}
+AllHold (r ∷ rs) = (r .given ≡ r .said) × AllHold rs
+
+-- a whole number, and a number of bits
+abbrev pub whole : ℕ → Fixed
+whole n = fromBits (pos (n * 65536))
+
+abbrev pub bits : ℕ → Fixed
+bits n = fromBits (pos n)
+
+-- a mask's answer for each of the first n stems, the last one first
+abbrev pub answers : HintMask → ℕ → List Bool
+answers m zero = []
+answers m (suc n) = isActive m n ∷ answers m n
+
+-- a stem that is declared and not used
+abbrev pub declared : Fixed → Fixed → StemHint
+declared min max = record { «is_used» = false; min = min; max = max; «ds_min» = bits 0; «ds_max» = bits 0 }
 
 abbrev pub rows : List Row
 rows =
+    -- a mask of no bytes, one of thirteen, and one whose only set bit is the first
+    record { Of = List Bool; said = replicate 96 false; given = answers (maskOf []) 96 }
+    ∷ record { Of = List Bool; said = replicate 96 true; given = answers (maskOf (replicate 13 0)) 96 }
+    ∷ record { Of = List Bool; said = replicate 95 false ++ true ∷ []; given = answers (maskOf (128 ∷ [])) 96 }
+    -- stems from 100 down to 79, to 80 and to 78
+    ∷ record { Of = Shape; said = BottomGhost (whole 79); given = shapeOf (declared (whole 100) (whole 79)) }
+    ∷ record { Of = Shape; said = TopGhost (whole 100); given = shapeOf (declared (whole 100) (whole 80)) }
+    ∷ record { Of = Shape; said = Pair (whole 78) (whole 100); given = shapeOf (declared (whole 100) (whole 78)) }
+    -- the boost of blue scale 2597 at scale 2048 and at scale 1
+    ∷ record { Of = Fixed; said = bits 8313; given = boostOf (bits 2048) (bits 2597) }
+    ∷ record { Of = Fixed; said = bits 32767; given = boostOf (bits 1) (bits 2597) }
     -- the output of 1023, of 1024 and of −1
-    record { said = pos 0 ∷ pos 1024 ∷ negsuc 1023 ∷ []; given = bits (truncF (fromBits (pos 1023))) ∷ bits (truncF (fromBits (pos 1024))) ∷ bits (truncF (fromBits (negsuc 0))) ∷ [] }
+    ∷ record { Of = Fixed; said = bits 0; given = truncF (bits 1023) }
+    ∷ record { Of = Fixed; said = bits 1024; given = truncF (bits 1024) }
+    ∷ record { Of = Fixed; said = fromBits (negsuc 1023); given = truncF (fromBits (negsuc 0)) }
     -- −0.5 rounded
-    ∷ record { said = pos 0 ∷ []; given = bits (roundF (fromBits (negsuc 32767))) ∷ [] }
+    ∷ record { Of = Fixed; said = bits 0; given = roundF (fromBits (negsuc 32767)) }
     -- the product of −1 bit and 0.5
-    ∷ record { said = negsuc 0 ∷ []; given = bits (mulF (fromBits (negsuc 0)) (fromBits (pos 32768))) ∷ [] }
+    ∷ record { Of = Fixed; said = fromBits (negsuc 0); given = mulF (fromBits (negsuc 0)) (bits 32768) }
     ∷ []

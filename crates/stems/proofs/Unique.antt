@@ -12,10 +12,7 @@ use Rattle.stems.specs.declared.edge.Kind.{Kind}
 use Rattle.stems.specs.declared.edge.Hint.{Hint}
 use Rattle.stems.specs.declared.edge.Shape.{Shape}
 use Rattle.stems.specs.declared.mask.HintMask.{HintMask}
-use Rattle.stems.proofs.edge.StemHint.shape.Reads as shape-reads
-use Rattle.stems.proofs.edge.Shape.edge.Reads as edge-reads
 use Rattle.stems.proofs.edge.Hint.none.Reads as none-reads
-use Rattle.stems.proofs.edge.Hint.at.Reads as at-reads
 use Rattle.stems.proofs.edge.Hint.setup.Reads as setup-reads
 use Rattle.stems.proofs.edge.Hint.is_valid.Reads as is-valid-reads
 use Rattle.stems.proofs.edge.Hint.is_bottom.Reads as is-bottom-reads
@@ -34,23 +31,12 @@ use Rattle.stems.proofs.mask.HintMask.get.Reads as get-reads
 use Rattle.stems.proofs.mask.HintMask.clear.Reads as clear-reads
 use Rattle.stems.proofs.mask.HintMask.same.Reads as same-reads
 
-module _ (κs : Lfts 0) (st : StemHint) (r r′ : Shape) where
-  pub shape-unique : shape-reads.Post κs (st, tt) r (st, tt) → shape-reads.Post κs (st, tt) r′ (st, tt) → r ≡ r′
-  shape-unique p q = p ∙ sym q
-
 module _ (κs : Lfts 0) (r r′ : Hint) where
   pub none-unique : none-reads.Post κs tt r tt → none-reads.Post κs tt r′ tt → r ≡ r′
   none-unique p q = p ∙ sym q
 
-  module _ (i : ℕ) (s : Fixed) where
-    pub at-unique : (k : Kind) (h : Fixed) → at-reads.Post κs (k, (h, (i, (s, tt)))) r (k, (h, (i, (s, tt)))) → at-reads.Post κs (k, (h, (i, (s, tt)))) r′ (k, (h, (i, (s, tt)))) → r ≡ r′
-    at-unique k h p q = p ∙ sym q
-
-    pub edge-unique : (h : Shape) (b : Bool) → edge-reads.Post κs (h, (b, (i, (s, tt)))) r (h, (b, (i, (s, tt)))) → edge-reads.Post κs (h, (b, (i, (s, tt)))) r′ (h, (b, (i, (s, tt)))) → r ≡ r′
-    edge-unique h b p q = p ∙ sym q
-
-    pub setup-unique : (st : StemHint) (b : Bool) → setup-reads.Post κs (st, (i, (s, (b, tt)))) r (st, (i, (s, (b, tt)))) → setup-reads.Post κs (st, (i, (s, (b, tt)))) r′ (st, (i, (s, (b, tt)))) → r ≡ r′
-    setup-unique st b p q = p ∙ sym q
+  pub setup-unique : (st : StemHint) (i : ℕ) (s : Fixed) (b : Bool) → setup-reads.Post κs (st, (i, (s, (b, tt)))) r (st, (i, (s, (b, tt)))) → setup-reads.Post κs (st, (i, (s, (b, tt)))) r′ (st, (i, (s, (b, tt)))) → r ≡ r′
+  setup-unique st i s b p q = p ∙ sym q
 
   module _ (e : Hint) (h : Fixed) where
     pub at-device-unique : at-device-reads.Post κs (e, (h, tt)) r (e, (h, tt)) → at-device-reads.Post κs (e, (h, tt)) r′ (e, (h, tt)) → r ≡ r′

@@ -44,7 +44,7 @@ const GHOST_TOP_WIDTH: Fixed = Fixed { bits: -0x14_0000 };
 
 impl StemHint {
     // From `Hint::setup`: the stem's shape, by its width.
-    pub fn shape(self) -> Shape
+    fn shape(self) -> Shape
         ensures { λ r. ⌜ r ≡ shapeOf self ⌝ }
     {
         let min = self.min;
@@ -65,7 +65,7 @@ impl StemHint {
 
 impl Shape {
     // From `Hint::setup`: the bottom edge or the top edge, before it is used. A ghost has only its own.
-    pub fn edge(self, bottom: bool, index: u8, scale: Fixed) -> Hint
+    fn edge(self, bottom: bool, index: u8, scale: Fixed) -> Hint
         ensures { λ r. ⌜ r ≡ edgeOf self bottom index scale ⌝ }
     {
         match self {
@@ -108,7 +108,7 @@ impl Hint {
     }
 
     // An unlocked edge of a stem, at its height by the scale.
-    pub fn at(kind: Kind, height: Fixed, index: u8, scale: Fixed) -> Hint
+    fn at(kind: Kind, height: Fixed, index: u8, scale: Fixed) -> Hint
         ensures { λ r. ⌜ r ≡ hintAt kind height index scale ⌝ }
     {
         Hint {

@@ -15,7 +15,9 @@ use Rattle.zones.specs.declared.blues.Blue.{Blue}
 use Rattle.zones.specs.declared.blues.Blues.{Blues}
 use Rattle.zones.specs.declared.blues.BlueZone.{BlueZone}
 use Rattle.zones.specs.declared.blues.Zones.{Zones}
+use Rattle.zones.specs.declared.state.HintParams.{HintParams}
 use Rattle.zones.specs.Zones.{none, noBlue, noZone, heightOf, zoneOf, consBy, sift, bluesZones, greatestFrom, filled, packed, noZones, pushed, keptBy, keptIn, readIn, listOf, kept, eachIn}
+use Rattle.zones.specs.State.{emBox, stateBy, stateOf}
 
 -- a pair read adds at most one zone
 pub kept-count : (other : Bool) (q : Zones) (b : Blue) → keptIn other q b .count ≤ q .count + 1
@@ -124,3 +126,12 @@ kept-length blues others h =
 -- zones that are changed alike
 pub each-filled : (f : BlueZone → BlueZone) (zs : List BlueZone) → eachIn f (packed zs) .list ≡ filled (map f zs)
 each-filled f zs = rw (take-append-seam zs, drop-append-seam zs, length-map zs f)
+
+-- a state has at most twelve zones
+pub state-count : (p : HintParams) (s : Fixed) → p .blues .count ≤ 7 → stateOf p s .«zone_count» ≤ 12
+unfolding stateOf
+state-count p s h = go (emBox p)
+  where
+    go : (em : Bool) → stateBy em p s .«zone_count» ≤ 12
+    go true = omega arith
+    go false = simp length-map (kept-length (p .blues) (p .«other_blues») h)

@@ -1,2 +1,4 @@
 pub mod Keep
 pub mod Family
+pub mod Holding
+pub mod Unique

@@ -39,14 +39,14 @@ pub struct Nearest {
 }
 
 impl Blue {
-    pub fn height(self) -> Fixed
+    pub(crate) fn height(self) -> Fixed
         ensures { λ r. ⌜ r ≡ heightOf self ⌝ }
     {
         self.top.sub(self.bottom)
     }
 
     // Both ends lie below a height.
-    pub fn wholly_below(self, height: Fixed) -> bool
+    pub(crate) fn wholly_below(self, height: Fixed) -> bool
         ensures { λ r. ⌜ r ≡ whollyBelow height self ⌝ }
     {
         if !self.bottom.less(height) {
@@ -56,7 +56,7 @@ impl Blue {
     }
 
     // Both ends lie above a height.
-    pub fn wholly_above(self, height: Fixed) -> bool
+    pub(crate) fn wholly_above(self, height: Fixed) -> bool
         ensures { λ r. ⌜ r ≡ whollyAbove height self ⌝ }
     {
         if !height.less(self.bottom) {
@@ -68,7 +68,7 @@ impl Blue {
 
 impl BlueZone {
     // Ports `BlueZone::default`.
-    pub fn none() -> BlueZone
+    pub(crate) fn none() -> BlueZone
         ensures { λ r. ⌜ r ≡ noZone ⌝ }
     {
         BlueZone {
@@ -81,7 +81,7 @@ impl BlueZone {
     }
 
     // From `build_zones`: the zone of a pair. A bottom zone is flat at its top, a top zone at its bottom.
-    pub fn new(pair: Blue, bottom: bool) -> BlueZone
+    pub(crate) fn new(pair: Blue, bottom: bool) -> BlueZone
         ensures { λ r. ⌜ r ≡ zoneOf bottom pair ⌝ }
     {
         let low = pair.bottom;
@@ -105,7 +105,7 @@ impl BlueZone {
     }
 
     // From `build_zones`: the flat edge moved to the family's nearest.
-    pub fn by_family(self, others: Blues, blues: Blues, limit: Fixed) -> BlueZone
+    pub(crate) fn by_family(self, others: Blues, blues: Blues, limit: Fixed) -> BlueZone
         requires { ⌜ (others .count ≤ 7) × (blues .count ≤ 7) ⌝ }
         ensures { λ r. ⌜ r ≡ movedFlat others blues limit self ⌝ }
     {
@@ -122,7 +122,7 @@ impl BlueZone {
     }
 
     // From `build_zones`: the flat edge on the device. The boost goes away from the glyph's middle.
-    pub fn on_device(self, scale: Fixed, boost: Fixed) -> BlueZone
+    pub(crate) fn on_device(self, scale: Fixed, boost: Fixed) -> BlueZone
         ensures { λ r. ⌜ r ≡ deviceFlat scale boost self ⌝ }
     {
         let flat = self.cs_flat_edge.mul(scale);
@@ -139,7 +139,7 @@ impl BlueZone {
 }
 
 impl Zones {
-    pub fn none() -> Zones
+    pub(crate) fn none() -> Zones
         ensures { λ r. ⌜ r ≡ noZones ⌝ }
     {
         let none = BlueZone::none();
@@ -151,7 +151,7 @@ impl Zones {
     }
 
     // One zone more.
-    pub fn push(self, zone: BlueZone, height: Fixed) -> Zones
+    pub(crate) fn push(self, zone: BlueZone, height: Fixed) -> Zones
         requires { ⌜ self .count < 12 ⌝ }
         ensures { λ r. ⌜ r ≡ pushed self zone height ⌝ }
     {
@@ -165,7 +165,7 @@ impl Zones {
     }
 
     // From `build_zones`: a pair is kept unless its height is negative. The first zone of all is a bottom zone, and so is one of the other blues.
-    pub fn keep(self, pair: Blue, other: bool) -> Zones
+    pub(crate) fn keep(self, pair: Blue, other: bool) -> Zones
         requires { ⌜ self .count < 12 ⌝ }
         ensures { λ r. ⌜ r ≡ keptIn other self pair ⌝ }
     {
@@ -180,7 +180,7 @@ impl Zones {
     }
 
     // From `build_zones`: the first n pairs of a list.
-    pub fn read(self, blues: Blues, n: usize, other: bool) -> Zones
+    pub(crate) fn read(self, blues: Blues, n: usize, other: bool) -> Zones
         requires { ⌜ (n ≤ 7) × (self .count + n ≤ 12) ⌝ }
         ensures { λ r. ⌜ r ≡ readIn other self (take n (blues .pairs)) ⌝ }
     {
@@ -193,7 +193,7 @@ impl Zones {
     }
 
     // From `build_zones`: every flat edge by the family, then on the device.
-    pub fn finish(
+    pub(crate) fn finish(
         self,
         others: Blues,
         blues: Blues,
@@ -216,7 +216,7 @@ impl Zones {
 
 impl Nearest {
     // From `build_zones`: a family edge that counts and is nearer takes the place.
-    pub fn with(self, flat: Fixed, limit: Fixed, edge: Fixed) -> Nearest
+    pub(crate) fn with(self, flat: Fixed, limit: Fixed, edge: Fixed) -> Nearest
         ensures { λ r. ⌜ r ≡ nearer flat limit self edge ⌝ }
     {
         let diff = flat.sub(edge).abs();
@@ -232,7 +232,7 @@ impl Nearest {
 
 impl Blues {
     // The edge of pair i that a family gives: the top for bottom zones, the bottom for top zones.
-    pub fn edge(self, i: usize, bottom: bool) -> Fixed
+    pub(crate) fn edge(self, i: usize, bottom: bool) -> Fixed
         requires { ⌜ i < 7 ⌝ }
         ensures { λ r. ⌜ r ≡ familyEdge bottom (getD (self .pairs) i noBlue) ⌝ }
     {
@@ -244,7 +244,7 @@ impl Blues {
     }
 
     // From `build_zones`: the family edge nearest to a flat edge, or that flat edge. For top zones the first pair is passed over.
-    pub fn nearest(self, flat: Fixed, limit: Fixed, bottom: bool) -> Fixed
+    pub(crate) fn nearest(self, flat: Fixed, limit: Fixed, bottom: bool) -> Fixed
         requires { ⌜ self .count ≤ 7 ⌝ }
         ensures { λ r. ⌜ r ≡ nearestOf bottom self flat limit ⌝ }
     {

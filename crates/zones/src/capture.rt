@@ -4,7 +4,6 @@ use crate::state::HintState;
 use fixed::Fixed;
 use stems::Hint;
 ghost use mathlib.Core.Path.{_≡_};
-ghost use mathlib.Core.Bool.{Bool};
 ghost use Prim.Native.Nat.{_≤_};
 ghost use lib.ListN.{take};
 ghost use Rattle.zones.specs.Capture.{within, holds, firstHolding, bottomGoal, topGoal, moveOf, lifted, captureOf};
@@ -23,7 +22,7 @@ pub struct Captured {
 }
 
 impl BlueZone {
-    pub fn within(self, fuzz: Fixed, height: Fixed) -> bool
+    pub(crate) fn within(self, fuzz: Fixed, height: Fixed) -> bool
         ensures { λ r. ⌜ r ≡ within fuzz self height ⌝ }
     {
         let low = self.cs_bottom_edge.sub(fuzz);
@@ -33,7 +32,7 @@ impl BlueZone {
         height.at_most(self.cs_top_edge.add(fuzz))
     }
 
-    pub fn holds(self, fuzz: Fixed, bottom: Hint, top: Hint) -> bool
+    pub(crate) fn holds(self, fuzz: Fixed, bottom: Hint, top: Hint) -> bool
         ensures { λ r. ⌜ r ≡ holds fuzz bottom top self ⌝ }
     {
         if self.is_bottom {

@@ -40,7 +40,7 @@ const ICF_TOP: Fixed = Fixed { bits: 0x370_0000 };
 
 impl HintParams {
     // From `build_zones`: the glyph is fitted to the em box and not to zones.
-    pub fn em_box(self) -> bool
+    pub(crate) fn em_box(self) -> bool
         ensures { λ r. ⌜ r ≡ emBox self ⌝ }
     {
         if self.language_group != 1 {
@@ -62,7 +62,7 @@ impl HintParams {
     }
 
     // From `build_zones`: the zones kept of the blues and of the first five other blues.
-    pub fn kept(self) -> Zones
+    pub(crate) fn kept(self) -> Zones
         requires { ⌜ Counted self ⌝ }
         ensures { λ r. ⌜ r ≡ packed (keptOf self) ⌝ }
     {

@@ -1,0 +1,50 @@
+-- `HintState::top_goal` meets its contract, by its two tests. Assumes nothing.
+use mathlib.Core.Path.{sym}
+use Rattle.zones.specs.Capture.{topGoal}
+use borrow.Author.Needs.{needs}
+use Rattle.zones.proofs.state.HintState.top_goal.Statement.{statement}
+use Rattle.zones.proofs.state.HintState.top_goal.Tie as tie
+
+returns : tie.Need-returns
+unfolding topGoal
+returns c = rw (c .if1 .taken)
+
+round-requires : tie.Need-round-requires
+round-requires c κs = search needs
+
+sub-requires : tie.Need-sub-requires
+sub-requires c κs = search needs
+
+at-most-requires : tie.Need-at-most-requires
+at-most-requires c κs = search needs
+
+add-requires : tie.Need-add-requires
+add-requires c κs = search needs
+
+max-requires : tie.Need-max-requires
+max-requires c κs = search needs
+
+returns-2 : tie.Need-returns-2
+unfolding topGoal
+returns-2 c =
+    let a = c .before .before .before in
+    rw (a .before .before .before .if1 .left, sym (a .before .sub .ensures), sym (a .at-most .ensures), c .before .before .if2 .taken, c .max .ensures, c .before .add .ensures, a .before .before .round .ensures)
+
+returns-3 : tie.Need-returns-3
+unfolding topGoal
+returns-3 c =
+    let a = c .before in
+    rw (a .before .before .before .if1 .left, sym (a .before .sub .ensures), sym (a .at-most .ensures), c .if2 .left) (a .before .before .round .ensures)
+
+pub top-goal-spec : {M : Type 1} → statement M
+top-goal-spec =
+    tie.close
+    (tie.spec
+    returns
+    round-requires
+    sub-requires
+    at-most-requires
+    add-requires
+    max-requires
+    returns-2
+    returns-3)
