@@ -1,0 +1,37 @@
+-- What may enter has room, and may enter as it is placed. Assumes nothing.
+use mathlib.Core.Path.{_≡_, refl}
+use mathlib.Core.Bool.{Bool, true, false, not, _&&_}
+use mathlib.Core.List.{List}
+use Prim.Native.Nat.{ℕ, _<_}
+use native.Mathlib.Omega.{arith}
+use lib.Dec.{ltb}
+use borrow.Author.Tests.{ltb-true}
+use Rattle.fixed.specs.declared.Fixed.{Fixed}
+use Rattle.fixed.specs.Fixed.{lessF}
+use Rattle.stems.specs.declared.edge.Hint.{Hint}
+use Rattle.hintmap.specs.declared.map.HintMap.{HintMap}
+use Rattle.hintmap.specs.declared.insert.Edges.{Edges}
+use Rattle.hintmap.specs.declared.insert.Edges.the-variants.{One, Two}
+use Rattle.hintmap.specs.Map.{view}
+use Rattle.hintmap.specs.Insert.{firstOf, enters, again, placedBy, placedFor}
+use Rattle.hintmap.proofs.Tests.{both}
+
+-- a pair leaves room for its top
+pub enters-two : (n : ℕ) (b t : Hint) → enters n (Two b t) ≡ true → n < 95
+unfolding enters
+enters-two n b t h = ltb-true n 95 (both (not (lessF (t .«cs_coord») (b .«cs_coord»))) (ltb n 95) h .1)
+
+pub enters-any : (n : ℕ) (e : Edges) → enters n e ≡ true → n < 96
+unfolding enters
+enters-any n (One e) h = ltb-true n 96 h
+enters-any n (Two b t) h = omega (arith, enters-two n b t h)
+
+-- placed again or not, it may enter as before
+again-enters : (n : ℕ) (b : Bool) (es : List Hint) (s₀ s : Fixed) (e : Edges) → enters n (placedBy b es s₀ s e) ≡ enters n e
+unfolding enters again
+again-enters n true es s₀ s (One e) = refl
+again-enters n true es s₀ s (Two b t) = refl
+again-enters n false es s₀ s e = refl
+
+pub placed-enters : (m : HintMap) (e : Edges) (initial : HintMap) (given : Bool) → enters (m .len) (placedFor m e initial given) ≡ enters (m .len) e
+placed-enters m e initial given = again-enters (m .len) (not (firstOf e .locked) && given) (view initial) (initial .scale) (m .scale) e

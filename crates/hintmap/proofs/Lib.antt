@@ -1,0 +1,13 @@
+pub mod Tests
+pub mod Laws
+pub mod Near
+pub mod Walk
+pub mod Alike
+pub mod Enter
+pub mod View
+pub mod Outcome
+pub mod Stems
+pub mod Words
+pub mod Mapping
+pub mod Made
+pub mod Unique

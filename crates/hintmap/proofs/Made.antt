@@ -1,0 +1,49 @@
+-- What a stem gives to put in is one single edge or the two of one stem. Assumes nothing.
+use mathlib.Core.Path.{_≡_, refl, sym, ap, _∙_}
+use mathlib.Core.Bool.{Bool, true, false, _&&_}
+use mathlib.Core.Logic.{_⊎_, ⊎-elim}
+use Prim.Native.Nat.{ℕ}
+use Rattle.fixed.specs.declared.Fixed.{Fixed}
+use Rattle.stems.specs.declared.edge.StemHint.{StemHint}
+use Rattle.stems.specs.declared.edge.Kind.the-variants.{GhostBottom, GhostTop}
+use Rattle.stems.specs.declared.edge.Hint.{Hint}
+use Rattle.stems.specs.declared.edge.Shape.{Shape}
+use Rattle.stems.specs.declared.edge.Shape.the-variants.{BottomGhost, TopGhost, Pair}
+use Rattle.stems.specs.Edge.{validK, pairK, isValid, shapeOf, edgeOf, usedBy, setupOf}
+use Rattle.stems.proofs.Edges.{setup-index}
+use Rattle.hintmap.specs.declared.insert.Edges.the-variants.{One}
+use Rattle.hintmap.specs.Insert.{chosenBy, chosen}
+use Rattle.hintmap.specs.Stems.{Made}
+
+-- a ghost by itself is made
+pub made-ghost : (e : Hint) → (e .kind ≡ GhostBottom) ⊎ (e .kind ≡ GhostTop) → Made (One e)
+unfolding Made
+made-ghost e k = record { single = ⊎-elim (ap pairK) (ap pairK) k }
+
+-- two edges, by whether each is valid
+by-valid : (b t : Hint) (x y : Bool) → isValid b ≡ x → isValid t ≡ y → Made (chosenBy x y b t) → Made (chosen b t)
+unfolding chosen
+by-valid b t x y p q g = rw (p, q) g
+
+-- two edges of the kinds that a shape has
+by-shape : (h : Shape) (i : ℕ) (s : Fixed) (b t : Hint) → b .kind ≡ edgeOf h true i s .kind → t .kind ≡ edgeOf h false i s .kind → b .index ≡ t .index → Made (chosen b t)
+unfolding edgeOf Made
+by-shape (BottomGhost h) i s b t p q o = by-valid b t true false (ap validK p) (ap validK q) (record { single = ap pairK p })
+by-shape (TopGhost h) i s b t p q o = by-valid b t false true (ap validK p) (ap validK q) (record { single = ap pairK q })
+by-shape (Pair l h) i s b t p q o = by-valid b t true true (ap validK p) (ap validK q) (record { bottom = p; top = q; own = o })
+
+-- use leaves an edge's kind
+kept : (u : Bool) (st : StemHint) (e : Hint) → usedBy u st e .kind ≡ e .kind
+kept true st e = refl
+kept false st e = refl
+
+module _ (st : StemHint) (i : ℕ) (s : Fixed) where
+  setup-kind : (b : Bool) → setupOf st i s b .kind ≡ edgeOf (shapeOf st) b i s .kind
+  unfolding setupOf
+  setup-kind b = kept (st .«is_used» && isValid (edgeOf (shapeOf st) b i s)) st (edgeOf (shapeOf st) b i s)
+
+  -- the edges of any stem are made
+  pub made-setup : Made (chosen (setupOf st i s true) (setupOf st i s false))
+  made-setup =
+      by-shape (shapeOf st) i s (setupOf st i s true) (setupOf st i s false) (setup-kind true) (setup-kind false)
+      (setup-index st i s true ∙ sym (setup-index st i s false))

@@ -1,0 +1,85 @@
+-- On a list in never-falling height the mapping goes by the last edge at or below, by the first with the map's scale where all are above, and by the scale where there is none.
+-- Assumes nothing.
+use mathlib.Core.Path.{_≡_, refl, ap}
+use mathlib.Core.Bool.{true, false, and-false}
+use mathlib.Core.List.{List, [], _∷_}
+use Prim.Native.Nat.{ℕ, zero, suc, _<_}
+use native.Mathlib.Omega.{arith}
+use lib.Dec.{eqb}
+use lib.ListN.{length, getD}
+use lib.Signed.{_≤ℤ_, _<ℤ_}
+use Rattle.fixed.specs.declared.Fixed.{Fixed}
+use Rattle.fixed.specs.Fixed.{mulF, lessF, atMostF}
+use Rattle.fixed.proofs.Order.{heights}
+use Rattle.stems.specs.declared.edge.Hint.{Hint}
+use Rattle.hintmap.specs.declared.map.HintMap.{HintMap}
+use Rattle.stems.specs.Edge.{noHint}
+use Rattle.hintmap.specs.Map.{view, leading, reach, line, mapOf}
+use Rattle.hintmap.specs.Stems.{height, Stems, Ascends, Last, Above}
+use Rattle.hintmap.proofs.Words.{stems-ascend}
+
+tail-ascends : (e : Hint) (es : List Hint) → Ascends (e ∷ es) → Ascends es
+tail-ascends e es s i j l k = s (suc i) (suc j) (omega arith) (omega arith)
+
+-- nothing is passed where the next edge is above
+reach-none : (es : List Hint) (h : Fixed) → (0 < length es → h .bits <ℤ height (getD es 0 noHint) .bits) → reach es h ≡ 0
+unfolding leading
+reach-none [] h a = refl
+reach-none (x ∷ xs) h a =
+    let l : h .bits <ℤ height x .bits = a (omega arith) in
+    let t : atMostF (height x) h ≡ false = omega heights in
+    rw t
+
+-- the walk passes all edges up to the last at or below
+reach-last : (e : Hint) (es : List Hint) (h : Fixed) (k : ℕ) → Ascends (e ∷ es) → Last (e ∷ es) h k → reach es h ≡ k
+unfolding leading
+reach-last e es h zero s l = reach-none es h (λ p. l .last 1 (omega arith) (omega arith))
+reach-last e [] h (suc k) s l = absurd (omega (arith, l .there))
+reach-last e (x ∷ xs) h (suc k) s l =
+    let a : height x .bits ≤ℤ height (getD (x ∷ xs) k noHint) .bits = s 1 (suc k) (omega arith) (l .there) in
+    let b = l .below in
+    let t : atMostF (height x) h ≡ true = omega heights in
+    rw t
+    (ap suc
+    (reach-last x xs h k (tail-ascends e (x ∷ xs) s)
+    (record { there = omega (arith, l .there); below = l .below; last = λ j p q. l .last (suc j) (omega arith) (omega arith) })))
+
+map-last : (es : List Hint) (s h : Fixed) (k : ℕ) → Ascends es → Last es h k → mapOf es s h ≡ line (getD es k noHint) (getD es k noHint .scale) h
+unfolding mapOf
+map-last [] s h k a l = absurd (omega (arith, l .there))
+map-last (e ∷ es) s h k a l =
+    let p : height e .bits ≤ℤ height (getD (e ∷ es) k noHint) .bits = a 0 k (omega arith) (l .there) in
+    let b = l .below in
+    let t : lessF h (height e) ≡ false = omega heights in
+    rw (reach-last e es h k a l, t, and-false (eqb k 0))
+
+map-first : (es : List Hint) (s h : Fixed) → 0 < length es → Above es h → mapOf es s h ≡ line (getD es 0 noHint) s h
+unfolding mapOf
+map-first [] s h l a = absurd (omega arith)
+map-first (e ∷ es) s h l a =
+    let p : h .bits <ℤ height e .bits = a 0 (omega arith) in
+    let t : lessF h (height e) ≡ true = omega heights in
+    rw (reach-none es h (λ p. a 1 (omega arith)), t)
+
+map-none : (es : List Hint) (s h : Fixed) → length es ≡ 0 → mapOf es s h ≡ mulF h s
+unfolding mapOf
+map-none [] s h l = refl
+map-none (e ∷ es) s h l = absurd (omega arith)
+
+-- what a height is mapped to, by the edges and the map's scale
+pub record Mapped (es : List Hint) (s h : Fixed) : Type 0 where
+  -- the last edge at or below the height serves, with its own scale
+  pub last : (k : ℕ) → Last es h k → mapOf es s h ≡ line (getD es k noHint) (getD es k noHint .scale) h
+  -- under all edges the first serves, with the map's scale
+  pub first : 0 < length es → Above es h → mapOf es s h ≡ line (getD es 0 noHint) s h
+  -- with no edges it is height·scale
+  pub none : length es ≡ 0 → mapOf es s h ≡ mulF h s
+
+-- so every height is mapped, by a map of whole stems
+pub mapped : (m : HintMap) (h : Fixed) → Stems (view m) → Mapped (view m) (m .scale) h
+mapped m h r =
+    record {
+      last = λ k. map-last (view m) (m .scale) h k (stems-ascend r);
+      first = map-first (view m) (m .scale) h;
+      none = map-none (view m) (m .scale) h;
+    }

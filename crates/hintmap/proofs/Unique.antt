@@ -1,0 +1,36 @@
+-- Any two outcomes that meet the contract of a public function are equal, over that contract as the toolchain reads it. Assumes nothing.
+use mathlib.Core.Path.{_≡_, sym, _∙_}
+use mathlib.Core.Bool.{Bool}
+use contract.Lifetimes.{Lfts}
+use Rattle.fixed.specs.declared.Fixed.{Fixed}
+use Rattle.stems.specs.declared.edge.Hint.{Hint}
+use Rattle.hintmap.specs.declared.map.HintMap.{HintMap}
+use Rattle.hintmap.proofs.map.HintMap.new.Reads as new-reads
+use Rattle.hintmap.proofs.map.HintMap.clear.Reads as clear-reads
+use Rattle.hintmap.proofs.map.HintMap.invalidate.Reads as invalidate-reads
+use Rattle.hintmap.proofs.map.HintMap.validate.Reads as validate-reads
+use Rattle.hintmap.proofs.map.HintMap.transform.Reads as transform-reads
+use Rattle.hintmap.proofs.map.HintMap.insert.Reads as insert-reads
+
+module _ (κs : Lfts 0) (r r′ : HintMap) where
+  pub new-unique : (s : Fixed) → new-reads.Post κs (s, tt) r (s, tt) → new-reads.Post κs (s, tt) r′ (s, tt) → r ≡ r′
+  new-unique s p q = p ∙ sym q
+
+  module _ (m : HintMap) where
+    pub clear-unique : clear-reads.Post κs (m, tt) r (m, tt) → clear-reads.Post κs (m, tt) r′ (m, tt) → r ≡ r′
+    clear-unique p q = p ∙ sym q
+
+    pub invalidate-unique : invalidate-reads.Post κs (m, tt) r (m, tt) → invalidate-reads.Post κs (m, tt) r′ (m, tt) → r ≡ r′
+    invalidate-unique p q = p ∙ sym q
+
+    pub validate-unique : validate-reads.Post κs (m, tt) r (m, tt) → validate-reads.Post κs (m, tt) r′ (m, tt) → r ≡ r′
+    validate-unique p q = p ∙ sym q
+
+    pub insert-unique : (b t : Hint) (i : HintMap) (g : Bool) →
+        insert-reads.Post κs (m, (b, (t, (i, (g, tt))))) r (m, (b, (t, (i, (g, tt))))) →
+        insert-reads.Post κs (m, (b, (t, (i, (g, tt))))) r′ (m, (b, (t, (i, (g, tt))))) → r ≡ r′
+    insert-unique b t i g p q = p ∙ sym q
+
+module _ (κs : Lfts 0) (m : HintMap) (h : Fixed) (r r′ : Fixed) where
+  pub transform-unique : transform-reads.Post κs (m, (h, tt)) r (m, (h, tt)) → transform-reads.Post κs (m, (h, tt)) r′ (m, (h, tt)) → r ≡ r′
+  transform-unique p q = p ∙ sym q

@@ -1,0 +1,64 @@
+-- `Edges::barred` meets its contract: each answer by the case and the tests that led to it. Assumes nothing.
+use borrow.Author.Needs.{needs}
+use mathlib.Core.Path.{sym}
+use Rattle.hintmap.specs.Insert.{bars}
+use Rattle.hintmap.proofs.insert.Edges.barred.Statement.{statement}
+use Rattle.hintmap.proofs.insert.Edges.barred.Tie as tie
+
+enum-known-self : tie.Need-enum-known-self
+enum-known-self c = search needs
+
+same-requires : tie.Need-same-requires
+same-requires c κs = search needs
+
+returns : tie.Need-returns
+unfolding bars
+returns c = rw (c .before .before .before .self .given .1, sym (c .before .same .ensures), c .if1 .taken)
+
+is-pair-top-requires : tie.Need-is-pair-top-requires
+is-pair-top-requires c κs = search needs
+
+enum-known-self-2 : tie.Need-enum-known-self-2
+enum-known-self-2 c = search needs
+
+same-requires-2 : tie.Need-same-requires-2
+same-requires-2 c κs = search needs
+
+returns-2 : tie.Need-returns-2
+unfolding bars
+returns-2 c = rw (c .before .before .before .self2 .given .1, sym (c .before .same2 .ensures), c .if2 .taken)
+
+at-most-requires : tie.Need-at-most-requires
+at-most-requires c κs = search needs
+
+returns-3 : tie.Need-returns-3
+unfolding bars
+returns-3 c = rw (c .before .before .before .before .before .self2 .given .1, sym (c .before .before .before .same2 .ensures), c .before .before .if2 .left, sym (c .before .at-most .ensures), c .if3 .taken)
+
+is-pair-top-requires-2 : tie.Need-is-pair-top-requires-2
+is-pair-top-requires-2 c κs = search needs
+
+returns-4 : tie.Need-returns-4
+unfolding bars
+returns-4 c = rw (c .before .before .before .before .self .given .1, sym (c .before .before .same .ensures), c .before .if1 .left) (c .is-pair-top .ensures)
+
+returns-5 : tie.Need-returns-5
+unfolding bars
+returns-5 c = rw (c .before .before .before .before .before .before .self2 .given .1, sym (c .before .before .before .before .same2 .ensures), c .before .before .before .if2 .left, sym (c .before .before .at-most .ensures), c .before .if3 .left) (c .is-pair-top2 .ensures)
+
+pub barred-spec : {M : Type 1} → statement M
+barred-spec =
+    tie.close
+    (tie.spec
+    enum-known-self
+    same-requires
+    returns
+    is-pair-top-requires
+    enum-known-self-2
+    same-requires-2
+    returns-2
+    at-most-requires
+    returns-3
+    is-pair-top-requires-2
+    returns-4
+    returns-5)

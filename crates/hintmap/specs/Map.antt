@@ -1,0 +1,107 @@
+-- What the edge map is, over the list of its edges (01, "The map").
+use mathlib.Core.Bool.{Bool, true, false, not, _&&_}
+use mathlib.Core.List.{List, [], _∷_, _++_}
+use Prim.Native.Nat.{ℕ, zero, suc, _+_}
+use lib.ListN.{take, drop, getD, replicate}
+use lib.Dec.{eqb}
+use Rattle.fixed.specs.declared.Fixed.{Fixed}
+use Rattle.fixed.specs.Fixed.{addF, subF, mulF, lessF, atMostF}
+use Rattle.stems.specs.declared.edge.Hint.{Hint}
+use Rattle.hintmap.specs.declared.map.HintMap.{HintMap}
+use Rattle.stems.specs.Edge.{noHint}
+
+-- a map with no edges
+abbrev pub newMap : Fixed → HintMap
+newMap s = record { edges = replicate 96 noHint; len = 0; «is_valid» = false; scale = s }
+
+-- the map with no edges, whatever its records hold
+abbrev pub clearedMap : HintMap → HintMap
+clearedMap m = record { edges = m .edges; len = 0; «is_valid» = false; scale = m .scale }
+
+-- the map that is to be built anew
+abbrev pub invalidMap : HintMap → HintMap
+invalidMap m = record { edges = m .edges; len = m .len; «is_valid» = false; scale = m .scale }
+
+-- the map that is built
+abbrev pub validMap : HintMap → HintMap
+validMap m = record { edges = m .edges; len = m .len; «is_valid» = true; scale = m .scale }
+
+-- the edges of a map
+abbrev pub view : HintMap → List Hint
+view m = take (m .len) (m .edges)
+
+-- one more where the test held, and else none
+abbrev pub countBy : Bool → ℕ → ℕ
+countBy true n = suc n
+countBy false n = 0
+
+-- how many edges pass a test before the first that does not
+unfoldable pub leading : (Hint → Bool) → List Hint → ℕ
+leading f [] = 0
+leading f (e ∷ es) = countBy (f e) (leading f es)
+
+-- the place of a height: before the first edge that is not below it
+abbrev pub placeOf : List Hint → Fixed → ℕ
+placeOf es h = leading (λ (e : Hint). lessF (e .«cs_coord») h) es
+
+-- an edge put at a place of a list
+abbrev pub putAt : List Hint → ℕ → Hint → List Hint
+putAt es at h = take at es ++ h ∷ drop at es
+
+-- an edge put at a place of a map: the edges from there on go up by one, and the records past them stay
+abbrev pub putIn : HintMap → ℕ → Hint → HintMap
+putIn m at h =
+    record {
+      edges = putAt (view m) at h ++ drop (suc (m .len)) (m .edges);
+      len = m .len + 1;
+      «is_valid» = m .«is_valid»;
+      scale = m .scale;
+    }
+
+-- a pair put at a place of a list, and of a map
+abbrev pub putTwo : List Hint → ℕ → Hint → Hint → List Hint
+putTwo es at b t = take at es ++ b ∷ t ∷ drop at es
+
+abbrev pub putTwoIn : HintMap → ℕ → Hint → Hint → HintMap
+putTwoIn m at b t = putIn (putIn m at b) (at + 1) t
+
+-- ---- mapping a height
+
+-- how many edges at the front are at or below a height
+abbrev pub reach : List Hint → Fixed → ℕ
+reach es h = leading (λ (e : Hint). atMostF (e .«cs_coord») h) es
+
+-- from a place back over the edges that are above a height, to the first at the furthest
+abbrev pub backBy : Bool → ℕ → ℕ → ℕ
+backBy true before at = before
+backBy false before at = at
+
+unfoldable pub backed : List Hint → ℕ → Fixed → ℕ
+backed es zero h = 0
+backed es (suc i) h = backBy (lessF h (getD es (suc i) noHint .«cs_coord»)) (backed es i h) (suc i)
+
+-- (height − edge height)·scale + edge device height
+unfoldable pub line : Hint → Fixed → Fixed → Fixed
+line e s h = addF (mulF (subF h (e .«cs_coord»)) s) (e .«ds_coord»)
+
+abbrev pub lineBy : Bool → Hint → Hint → Fixed → Fixed → Fixed
+lineBy true e x s h = line e s h
+lineBy false e x s h = line x (x .scale) h
+
+-- the edge that serves, and the line through it
+unfoldable pub mapOf : List Hint → Fixed → Fixed → Fixed
+mapOf [] s h = mulF h s
+mapOf (e ∷ es) s h =
+    lineBy (eqb (reach es h) 0 && lessF h (e .«cs_coord»)) e (getD (e ∷ es) (reach es h) noHint) s h
+
+-- ---- the tests beside a place
+
+-- no edge at the front of the list is one that f names
+unfoldable pub ahead : (Hint → Bool) → List Hint → Bool
+ahead f [] = true
+ahead f (x ∷ xs) = not (f x)
+
+-- no edge before a place is
+unfoldable pub behind : (Hint → Bool) → List Hint → ℕ → Bool
+behind f es zero = true
+behind f es (suc i) = not (f (getD es i noHint))

@@ -1,0 +1,117 @@
+// The list of edges, and the mapping of a height by it.
+use fixed::Fixed;
+use stems::Hint;
+ghost use mathlib.Core.Path.{_≡_};
+ghost use Prim.Native.Nat.{_<_, _≤_};
+ghost use lib.ListN.{drop};
+ghost use Rattle.hintmap.specs.Map.{newMap, clearedMap, invalidMap, validMap, view, line, reach, backed, mapOf};
+
+pub struct HintMap {
+    pub edges: [Hint; 96],
+    pub len: usize,
+    pub is_valid: bool,
+    pub scale: Fixed,
+}
+
+// The device height of a height on the line through an edge.
+fn on_line(edge: Hint, scale: Fixed, height: Fixed) -> Fixed
+    ensures { λ r. ⌜ r ≡ line edge scale height ⌝ }
+{
+    height.sub(edge.cs_coord).mul(scale).add(edge.ds_coord)
+}
+
+impl HintMap {
+    // Ports `HintMap::new`.
+    pub fn new(scale: Fixed) -> HintMap
+        ensures { λ r. ⌜ r ≡ newMap scale ⌝ }
+    {
+        let none = Hint::none();
+        HintMap {
+            edges: [none; 96],
+            len: 0,
+            is_valid: false,
+            scale,
+        }
+    }
+
+    // Ports `HintMap::clear`: what the records hold stays, unread.
+    pub fn clear(self) -> HintMap
+        ensures { λ r. ⌜ r ≡ clearedMap self ⌝ }
+    {
+        let mut map = self;
+        map.len = 0;
+        map.is_valid = false;
+        map
+    }
+
+    // From `hint_mask`: the map is to be built anew, and keeps its edges until then.
+    pub fn invalidate(self) -> HintMap
+        ensures { λ r. ⌜ r ≡ invalidMap self ⌝ }
+    {
+        let mut kept = self;
+        kept.is_valid = false;
+        kept
+    }
+
+    // From `build`: the map is built.
+    pub fn validate(self) -> HintMap
+        ensures { λ r. ⌜ r ≡ validMap self ⌝ }
+    {
+        let mut built = self;
+        built.is_valid = true;
+        built
+    }
+
+    // From `transform`: upward from the first edge, past each next one that is at or below the height.
+    fn walk_up(self, height: Fixed) -> usize
+        requires { ⌜ (0 < self .len) × (self .len ≤ 96) ⌝ }
+        ensures { λ r. ⌜ r ≡ reach (drop 1 (view self)) height ⌝ }
+    {
+        let len = self.len;
+        let mut i: usize = 0;
+        while i + 1 < len {
+            let next = self.edges[i + 1];
+            if !next.cs_coord.at_most(height) {
+                return i;
+            }
+            i += 1;
+        }
+        i
+    }
+
+    // From `transform`: and downward again, past each edge that is above it.
+    fn walk_down(self, from: usize, height: Fixed) -> usize
+        requires { ⌜ (from < self .len) × (self .len ≤ 96) ⌝ }
+        ensures { λ r. ⌜ r ≡ backed (view self) from height ⌝ }
+    {
+        let mut i = from;
+        while 0 < i {
+            let edge = self.edges[i];
+            if !height.less(edge.cs_coord) {
+                return i;
+            }
+            i -= 1;
+        }
+        i
+    }
+
+    // Ports `HintMap::transform`.
+    pub fn transform(self, height: Fixed) -> Fixed
+        requires { ⌜ self .len ≤ 96 ⌝ }
+        ensures { λ r. ⌜ r ≡ mapOf (view self) (self .scale) height ⌝ }
+    {
+        if self.len == 0 {
+            return height.mul(self.scale);
+        }
+        let i = self.walk_down(self.walk_up(height), height);
+        if 0 < i {
+            let edge = self.edges[i];
+            return on_line(edge, edge.scale, height);
+        }
+        let first = self.edges[0];
+        if height.less(first.cs_coord) {
+            return on_line(first, self.scale, height);
+        }
+        on_line(first, first.scale, height)
+    }
+}
