@@ -40,6 +40,18 @@ def quotient(a, b):
     return wrapped(nearest(Fraction(a * 65536, b)))
 
 
+def product(a, b):
+    return wrapped(nearest(Fraction(a * b, 65536)))
+
+
+def product_quotient(a, b, c):
+    return wrapped(nearest(Fraction(a * b, c)))
+
+
+def rounded(a):
+    return wrapped(a + 0x8000) & ~0xFFFF
+
+
 def half(a):
     """`int` cuts a fraction off toward zero."""
     return int(Fraction(a, 2))
@@ -74,12 +86,16 @@ def with_divisors():
     return rows
 
 
-def print_table(name, operands, expected):
-    rows = [(*row, 0, 0)[:3] + (expected(*row),) for row in operands]
-    print(f"\n// {len(rows)} rows.\npub const {name}: [i32; {4 * len(rows)}] = [")
-    for row in rows:
-        print(*(f"    {number},\n" for number in row), sep="", end="")
+def print_rows(name, rows, of="i32"):
+    """Rows as one flat constant, a number a line."""
+    numbers = [number for row in rows for number in row]
+    print(f"\n// {len(rows)} rows.\npub const {name}: [{of}; {len(numbers)}] = [")
+    print(*(f"    {number},\n" for number in numbers), sep="", end="")
     print("];")
+
+
+def print_table(name, operands, expected):
+    print_rows(name, [(*row, 0, 0)[:3] + (expected(*row),) for row in operands])
 
 
 def main():
@@ -88,9 +104,9 @@ def main():
     edges = list(pairs(EDGES, repeat=2))
     products = edges + near_halves([32767, 32768, 32769]) + drawn_pairs(3)
     quotients = edges + near_halves([131071, 131072, 131073]) + drawn_pairs(3)
-    print_table("PRODUCTS", products, lambda a, b: wrapped(nearest(Fraction(a * b, 65536))))
+    print_table("PRODUCTS", products, product)
     print_table("QUOTIENTS", quotients, quotient)
-    print_table("PRODUCT_QUOTIENTS", with_divisors(), lambda a, b, c: wrapped(nearest(Fraction(a * b, c))))
+    print_table("PRODUCT_QUOTIENTS", with_divisors(), product_quotient)
 
     couples = list(pairs([LOW, -1, 0, HIGH], repeat=2)) + [(drawn(31), drawn(31)) for _ in range(4)]
     print_table("SUMS", couples, lambda a, b: wrapped(a + b))
@@ -101,7 +117,7 @@ def main():
     print_table("NEGATIONS", singles, lambda a: wrapped(-a))
     print_table("ABSOLUTE_VALUES", singles, lambda a: wrapped(abs(a)))
     print_table("DOUBLINGS", singles, lambda a: wrapped(2 * a))
-    print_table("ROUNDS", singles, lambda a: wrapped(a + 0x8000) & ~0xFFFF)
+    print_table("ROUNDS", singles, rounded)
     print_table("FRACTIONS", singles, lambda a: a & 0xFFFF)
     print_table("HALVES", singles, half)
     print_table("OUTPUTS", singles, lambda a: a & ~0x3FF)
@@ -116,4 +132,5 @@ def main():
     print_table("CONSTANTS", [(number,) for number in range(len(constants))], lambda number: constants[number])
 
 
-main()
+if __name__ == "__main__":
+    main()

@@ -1,9 +1,9 @@
 -- On a list in never-falling height the mapping goes by the last edge at or below, by the first with the map's scale where all are above, and by the scale where there is none.
 -- Assumes nothing.
 use mathlib.Core.Path.{_≡_, refl, ap}
-use mathlib.Core.Bool.{true, false, and-false}
+use mathlib.Core.Bool.{Bool, true, false, and-false}
 use mathlib.Core.List.{List, [], _∷_}
-use Prim.Native.Nat.{ℕ, zero, suc, _<_}
+use Prim.Native.Nat.{ℕ, zero, suc, _≤_, _<_}
 use native.Mathlib.Omega.{arith}
 use lib.Dec.{eqb}
 use lib.ListN.{length, getD}
@@ -83,3 +83,30 @@ mapped m h r =
       first = map-first (view m) (m .scale) h;
       none = map-none (view m) (m .scale) h;
     }
+
+-- of any list and height there is a last edge at or below, or all edges are above (as where there are none)
+pub data Serves (es : List Hint) (h : Fixed) : Type 0 where
+  below : (k : ℕ) → Last es h k → Serves es h
+  above : Above es h → Serves es h
+
+module _ (e : Hint) (es : List Hint) (h : Fixed) where
+  -- what holds past the first edge holds past it one place on
+  later : (k : ℕ) → ((j : ℕ) → k ≤ j → j < length es → h .bits <ℤ height (getD es j noHint) .bits) → (j : ℕ) → k < j → j < length (e ∷ es) → h .bits <ℤ height (getD (e ∷ es) j noHint) .bits
+  later k a zero p r = absurd (omega arith)
+  later k a (suc j) p r = a j (omega arith) (omega arith)
+
+  serves-by : (t : Bool) → atMostF (height e) h ≡ t → Serves es h → Serves (e ∷ es) h
+  serves-by t q (below k l) = below (suc k) (record { there = omega (arith, l .there); below = l .below; last = later (suc k) (λ j p r. l .last j p r) })
+  serves-by true q (above a) = below 0 (record { there = omega arith; below = omega heights; last = later 0 (λ j p r. a j r) })
+  serves-by false q (above a) = above all
+    where
+      all : (j : ℕ) → j < length (e ∷ es) → h .bits <ℤ height (getD (e ∷ es) j noHint) .bits
+      all zero r = omega heights
+      all (suc j) r = a j (omega arith)
+
+pub serves : (es : List Hint) (h : Fixed) → Serves es h
+serves [] h = above none-above
+  where
+    none-above : (j : ℕ) → j < 0 → h .bits <ℤ height (getD {A = Hint} [] j noHint) .bits
+    none-above j l = absurd (omega arith)
+serves (e ∷ es) h = serves-by e es h (atMostF (height e) h) refl (serves es h)

@@ -1,0 +1,66 @@
+// Stems' edges, run on the rows of `stems_rows`.
+use crate::rows;
+use crate::rows::Rows;
+use crate::stems_rows;
+use stems::Hint;
+use stems::Kind;
+use stems::StemHint;
+ghost use Prim.Native.Nat.{_≤_};
+
+pub fn run() {
+    rows::run(b"edges", Rows::Edges, &stems_rows::EDGES);
+}
+
+// A row: a stem, its number and a scale; of the bottom edge and of the top edge the kind, 1 if it is
+// locked, the height and the device height.
+pub fn edges_agree(row: &[i32]) -> bool {
+    let stem = StemHint {
+        is_used: rows::flag(row, 3),
+        min: rows::fixed(row, 1),
+        max: rows::fixed(row, 2),
+        ds_min: rows::fixed(row, 4),
+        ds_max: rows::fixed(row, 5),
+    };
+    let index = rows::count(row, 6, 95) as u8;
+    let scale = rows::fixed(row, 7);
+    if !edge_agrees(Hint::setup(stem, index, scale, true), row, 8) {
+        return false;
+    }
+    edge_agrees(Hint::setup(stem, index, scale, false), row, 12)
+}
+
+// The edge is of the row's stem, and is as the row says from `at` on.
+fn edge_agrees(edge: Hint, row: &[i32], at: usize) -> bool
+    requires { ⌜ at ≤ 12 ⌝ }
+{
+    if edge.index as i32 != rows::number(row, 6) {
+        return false;
+    }
+    if edge.scale.bits != rows::number(row, 7) {
+        return false;
+    }
+    if edge.synthetic {
+        return false;
+    }
+    let kind = edge.kind;
+    if number_of(kind) != rows::number(row, at) {
+        return false;
+    }
+    if edge.locked != rows::flag(row, at + 1) {
+        return false;
+    }
+    if edge.cs_coord.bits != rows::number(row, at + 2) {
+        return false;
+    }
+    edge.ds_coord.bits == rows::number(row, at + 3)
+}
+
+fn number_of(kind: Kind) -> i32 {
+    match kind {
+        Kind::Absent => 0,
+        Kind::GhostBottom => 1,
+        Kind::GhostTop => 2,
+        Kind::PairBottom => 3,
+        Kind::PairTop => 4,
+    }
+}
