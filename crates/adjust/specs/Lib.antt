@@ -1,0 +1,3 @@
+pub mod Adjust
+pub mod Pass
+pub mod Second

@@ -1,0 +1,35 @@
+-- The second pass of the adjustment, newest note first, and the whole (01, "Adjust").
+use mathlib.Core.Bool.{cond, _&&_}
+use Prim.Native.Nat.{ℕ, zero, suc}
+use lib.ListN.{getD, replicate}
+use lib.Dec.{ltb}
+use Rattle.fixed.specs.declared.Fixed.{Fixed}
+use Rattle.hintmap.specs.declared.map.HintMap.{HintMap}
+use Rattle.stems.specs.Edge.{isPair}
+use Rattle.adjust.specs.declared.Notes.{Notes}
+use Rattle.adjust.specs.declared.Pass.{Pass}
+use Rattle.adjust.specs.Adjust.{none, edgeAt, movedIn, roomUp}
+use Rattle.adjust.specs.Pass.{firstPass}
+
+-- the hint whose upper edge is j, moved
+unfoldable pub liftBoth : HintMap → ℕ → Fixed → HintMap
+liftBoth m zero by = movedIn m zero by
+liftBoth m (suc j) by = cond (isPair (edgeAt m (suc j))) (movedIn (movedIn m (suc j) by) j by) (movedIn m (suc j) by)
+
+-- the missing move is applied to the hint if there is room up for it
+unfoldable pub retryOf : HintMap → ℕ → Fixed → HintMap
+retryOf m j by = cond (ltb j (m .len) && roomUp m j by) (liftBoth m j by) m
+
+-- the first k notes, the last of them first
+unfoldable pub secondPass : ℕ → Notes → HintMap → HintMap
+secondPass zero n m = m
+secondPass (suc k) n m = secondPass k n (retryOf m (getD (n .at) k 0) (getD (n .by) k none))
+
+abbrev pub noNotes : Notes
+noNotes = record { at = replicate 96 0; by = replicate 96 none; count = 0 }
+
+abbrev pub secondOf : Pass → HintMap
+secondOf p = secondPass (p .notes .count) (p .notes) (p .map)
+
+unfoldable pub adjustOf : HintMap → HintMap
+adjustOf m = secondOf (firstPass (record { map = m; notes = noNotes }))

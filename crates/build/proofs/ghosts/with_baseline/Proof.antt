@@ -1,0 +1,39 @@
+-- `with_baseline` meets its contract, by those of its calls. Assumes nothing.
+use mathlib.Core.Path.{sym}
+use Rattle.build.specs.Ghosts.{baselined}
+use borrow.Author.Needs.{needs}
+use Rattle.build.proofs.ghosts.with_baseline.Statement.{statement}
+use Rattle.build.proofs.ghosts.with_baseline.Tie as tie
+
+is-uncovered-requires : tie.Need-is-uncovered-requires
+is-uncovered-requires c κs = search needs
+
+ghost-at-requires : tie.Need-ghost-at-requires
+ghost-at-requires c κs = search needs
+
+none-requires : tie.Need-none-requires
+none-requires c κs = search needs
+
+insert-requires : tie.Need-insert-requires
+insert-requires c κs = search needs
+
+returns : tie.Need-returns
+unfolding baselined
+returns c =
+    let t = c .before .before .before .before in
+    rw (sym (t .before .is-uncovered .ensures), t .if1 .taken) (cc)
+
+returns-2 : tie.Need-returns-2
+unfolding baselined
+returns-2 c = rw (sym (c .before .is-uncovered .ensures), c .if1 .left)
+
+pub with-baseline-spec : {M : Type 1} → statement M
+with-baseline-spec =
+    tie.close
+    (tie.spec
+    is-uncovered-requires
+    ghost-at-requires
+    none-requires
+    insert-requires
+    returns
+    returns-2)

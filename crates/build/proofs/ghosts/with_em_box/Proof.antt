@@ -1,0 +1,47 @@
+-- `with_em_box` meets its contract, by those of its calls; the first edge keeps within the room. Assumes nothing.
+use Rattle.build.specs.Ghosts.{emBoxed}
+use Rattle.build.proofs.Room.{insert-len}
+use borrow.Author.Needs.{needs}
+use Rattle.build.proofs.ghosts.with_em_box.Statement.{statement}
+use Rattle.build.proofs.ghosts.with_em_box.Tie as tie
+
+em-bottom-requires : tie.Need-em-bottom-requires
+em-bottom-requires c κs = search needs
+
+none-requires : tie.Need-none-requires
+none-requires c κs = search needs
+
+insert-requires : tie.Need-insert-requires
+insert-requires c κs = search needs
+
+none-requires-2 : tie.Need-none-requires-2
+none-requires-2 c κs = search needs
+
+em-top-requires : tie.Need-em-top-requires
+em-top-requires c κs = search needs
+
+insert-requires-2 : tie.Need-insert-requires-2
+insert-requires-2 c κs =
+    let s = c .before .before .before .before .before .before .before in
+    (rw (c .before .before .insert .ensures) (insert-len _ _ _ _ (s .pre .0)), s .pre .1)
+
+returns : tie.Need-returns
+unfolding emBoxed
+returns c = rw (c .before .before .before .before .before .before .before .if1 .taken) (cc)
+
+returns-2 : tie.Need-returns-2
+unfolding emBoxed
+returns-2 c = rw (c .if1 .left)
+
+pub with-em-box-spec : {M : Type 1} → statement M
+with-em-box-spec =
+    tie.close
+    (tie.spec
+    em-bottom-requires
+    none-requires
+    insert-requires
+    none-requires-2
+    em-top-requires
+    insert-requires-2
+    returns
+    returns-2)

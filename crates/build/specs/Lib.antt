@@ -1,0 +1,3 @@
+pub mod Ghosts
+pub mod Place
+pub mod Build

@@ -1,0 +1,62 @@
+-- Placing the edges of stems (01, "The map", Build).
+use mathlib.Core.Bool.{Bool, true, false, _||_}
+use mathlib.Core.List.{List, [], _∷_}
+use Prim.Native.Nat.{ℕ, suc}
+use lib.ListN.{take}
+use Rattle.fixed.specs.declared.Fixed.{Fixed}
+use Rattle.stems.specs.declared.edge.StemHint.{StemHint}
+use Rattle.stems.specs.declared.edge.Hint.{Hint}
+use Rattle.stems.specs.Mask.{isActive, cleared}
+use Rattle.stems.specs.Edge.{setupOf}
+use Rattle.zones.specs.declared.state.HintState.{HintState}
+use Rattle.zones.specs.declared.capture.Captured.{Captured}
+use Rattle.zones.specs.Capture.{captureOf}
+use Rattle.hintmap.specs.declared.map.HintMap.{HintMap}
+use Rattle.hintmap.specs.Insert.{chosen, insertIn}
+use Rattle.build.specs.declared.place.Stems.{Stems}
+use Rattle.build.specs.declared.place.Placed.{Placed}
+
+-- the stems that are declared
+abbrev pub declaredIn : Stems → List StemHint
+declaredIn ss = take (ss .count) (ss .list)
+
+abbrev pub readyBy : Bool → HintState → Hint → Hint → Captured
+readyBy true st b t = record { captured = true; bottom = b; top = t }
+readyBy false st b t = captureOf st b t
+
+-- a stem's edges, and whether they are locked or captured
+unfoldable pub readyOf : HintState → StemHint → ℕ → Captured
+readyOf st stem i =
+    readyBy (setupOf stem i (st .scale) true .locked || setupOf stem i (st .scale) false .locked) st
+    (setupOf stem i (st .scale) true) (setupOf stem i (st .scale) false)
+
+abbrev pub putBy : Bool → HintMap → Bool → Placed → ℕ → Captured → Placed
+putBy true initial given p i e =
+    record { map = insertIn (p .map) (chosen (e .bottom) (e .top)) initial given; rest = cleared (p .rest) i }
+putBy false initial given p i e = p
+
+abbrev pub lockedBy : Bool → HintState → HintMap → Bool → Placed → ℕ → StemHint → Placed
+lockedBy true st initial given p i stem = putBy (readyOf st stem i .captured) initial given p i (readyOf st stem i)
+lockedBy false st initial given p i stem = p
+
+-- an active stem that is locked or captured is put in, and is handled even if it is dropped
+unfoldable pub lockedTurn : HintState → HintMap → Bool → Placed → ℕ → StemHint → Placed
+lockedTurn st initial given p i stem = lockedBy (isActive (p .rest) i) st initial given p i stem
+
+abbrev pub freeBy : Bool → Fixed → HintMap → Placed → ℕ → StemHint → Placed
+freeBy true s initial p i stem =
+    record { map = insertIn (p .map) (chosen (setupOf stem i s true) (setupOf stem i s false)) initial true; rest = p .rest }
+freeBy false s initial p i stem = p
+
+-- an active stem that is left is put in
+unfoldable pub freeTurn : Fixed → HintMap → Placed → ℕ → StemHint → Placed
+freeTurn s initial p i stem = freeBy (isActive (p .rest) i) s initial p i stem
+
+-- the stems in order, the first of them number i
+unfoldable pub lockedTurns : HintState → HintMap → Bool → ℕ → List StemHint → Placed → Placed
+lockedTurns st initial given i [] p = p
+lockedTurns st initial given i (x ∷ xs) p = lockedTurns st initial given (suc i) xs (lockedTurn st initial given p i x)
+
+unfoldable pub freeTurns : Fixed → HintMap → ℕ → List StemHint → Placed → Placed
+freeTurns s initial i [] p = p
+freeTurns s initial i (x ∷ xs) p = freeTurns s initial (suc i) xs (freeTurn s initial p i x)
