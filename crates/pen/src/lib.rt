@@ -1,0 +1,11 @@
+// The pen of a drawing, and the record words that its strokes write (01, "Path records").
+mod records;
+mod strokes;
+
+pub use records::Records;
+pub use records::put;
+pub use strokes::Pen;
+pub use strokes::Point;
+pub use strokes::Start;
+pub use strokes::Stroke;
+pub use strokes::Waiting;
