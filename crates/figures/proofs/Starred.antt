@@ -1,12 +1,23 @@
 -- Every starred figure of 01 is what the definitions give: they are computed. Assumes nothing.
 use mathlib.Core.Path.{refl}
+use Rattle.adjust.specs.Adjust.{toNext, movesOf, roomUp, roomDown, choiceOf, wantsNote, decideOf, rescaleOf}
+use Rattle.adjust.specs.Pass.{upperOf, notedOf, movedBoth, rescaleBoth, settleOf, turnOf, passFrom, firstPass}
+use Rattle.adjust.specs.Second.{liftBoth, retryOf, secondPass, adjustOf}
+use Rattle.build.specs.Build.{initialOf, savedIn, savedAll, builtOf}
+use Rattle.build.specs.Ghosts.{emBottom, emTop, emBoxed, uncovered, baselined}
+use Rattle.build.specs.Place.{readyOf, lockedTurn, freeTurn, lockedTurns, freeTurns}
+use Rattle.fixed.specs.Fixed.{addF, subF, negF, absF, twiceF, mulF, overZero, quotient, divF, mulDivF, roundF, fractF, halfF, midpointF, truncF, minF, maxF}
 use Rattle.fixed.specs.Whole.{lowBits, wrap32, nearest, ratioOf}
-use Rattle.fixed.specs.Fixed.{subF, mulF, mulDivF, roundF, truncF, minF}
-use Rattle.stems.specs.Mask.{maskOf, isActive}
-use Rattle.stems.specs.Edge.{shapeOf}
-use Rattle.zones.specs.State.{boostOf}
+use Rattle.hintmap.specs.Insert.{chosen, enters, bars, tooHigh, again, putEdges, settle, insertIn}
+use Rattle.hintmap.specs.Map.{leading, backed, line, mapOf, ahead, behind}
+use Rattle.hintmap.specs.Stems.{Past, Made}
+use Rattle.stems.specs.Edge.{shapeOf, edgeOf, setupOf}
+use Rattle.stems.specs.Mask.{maskOf, isActive, cleared, sameBytes}
+use Rattle.zones.specs.Capture.{holds, firstHolding, bottomGoal, topGoal, moveOf, lifted, captureOf}
+use Rattle.zones.specs.State.{emBox, clampedScale, boostOf, stateOf}
+use Rattle.zones.specs.Zones.{sift, bluesZones, kept, greatestFrom, nearer, nearestFrom, nearestOf, movedFlat, deviceFlat, keptIn, readIn}
 use Rattle.figures.specs.Rows.{rows, AllHold}
 
 pub starred : AllHold rows
-unfolding lowBits wrap32 nearest ratioOf subF mulF mulDivF roundF truncF minF maskOf isActive shapeOf boostOf
-starred = (refl, (refl, (refl, (refl, (refl, (refl, (refl, (refl, (refl, (refl, (refl, (refl, (refl, tt)))))))))))))
+unfolding toNext movesOf roomUp roomDown choiceOf wantsNote decideOf rescaleOf upperOf notedOf movedBoth rescaleBoth settleOf turnOf passFrom firstPass liftBoth retryOf secondPass adjustOf initialOf savedIn savedAll builtOf emBottom emTop emBoxed uncovered baselined readyOf lockedTurn freeTurn lockedTurns freeTurns addF subF negF absF twiceF mulF overZero quotient divF mulDivF roundF fractF halfF midpointF truncF minF maxF lowBits wrap32 nearest ratioOf chosen enters bars tooHigh again putEdges settle insertIn leading backed line mapOf ahead behind Past Made shapeOf edgeOf setupOf maskOf isActive cleared sameBytes holds firstHolding bottomGoal topGoal moveOf lifted captureOf emBox clampedScale boostOf stateOf sift bluesZones kept greatestFrom nearer nearestFrom nearestOf movedFlat deviceFlat keptIn readIn
+starred = (refl, (refl, (refl, (refl, (refl, (refl, (refl, (refl, (refl, (refl, (refl, (refl, (refl, (refl, (refl, tt)))))))))))))))
