@@ -1,6 +1,6 @@
 -- The second pass in the words of the code, and what both passes keep. Assumes nothing.
 use mathlib.Core.Path.{_≡_, refl}
-use mathlib.Core.Bool.{Bool, true, false, cond, _&&_}
+use mathlib.Core.Bool.{Bool, true, false, cond}
 use Prim.Native.Nat.{ℕ, zero, suc, _+_, _-_, _≤_, _<_}
 use native.Mathlib.Nat.{lt-irrefl}
 use native.Mathlib.Omega.{arith}
@@ -12,9 +12,10 @@ use Rattle.hintmap.specs.declared.map.HintMap.{HintMap}
 use Rattle.stems.specs.Edge.{isPair}
 use Rattle.adjust.specs.declared.Notes.{Notes}
 use Rattle.adjust.specs.declared.Pass.{Pass}
-use Rattle.adjust.specs.Adjust.{none, edgeAt, movedIn, roomUp}
+use Rattle.adjust.specs.Adjust.{none, edgeAt, movedIn}
 use Rattle.adjust.specs.Pass.{upperOf, turnOf, passFrom, firstPass}
 use Rattle.adjust.specs.Second.{liftBoth, retryOf, secondPass}
+use Rattle.adjust.proofs.Keeps.{retry-kept}
 use Rattle.adjust.proofs.Turns.{upper-is, turn-keeps}
 
 pub lift-at : (m : HintMap) (j : ℕ) (by : Fixed) → 0 < j → liftBoth m j by ≡ cond (isPair (edgeAt m j)) (movedIn (movedIn m j by) (j - 1) by) (movedIn m j by)
@@ -29,18 +30,8 @@ unfolding liftBoth
 lift-none m zero by p = refl
 lift-none m (suc j) by p = absurd (lt-irrefl 0 (omega arith))
 
-cond-len : (b : Bool) (x y : HintMap) (n : ℕ) → x .len ≡ n → y .len ≡ n → cond b x y .len ≡ n
-cond-len true x y n p q = p
-cond-len false x y n p q = q
-
-lift-len : (m : HintMap) (j : ℕ) (by : Fixed) → liftBoth m j by .len ≡ m .len
-unfolding liftBoth
-lift-len m zero by = refl
-lift-len m (suc j) by = cond-len (isPair (edgeAt m (suc j))) (movedIn (movedIn m (suc j) by) j by) (movedIn m (suc j) by) (m .len) refl refl
-
 pub retry-len : (m : HintMap) (j : ℕ) (by : Fixed) → retryOf m j by .len ≡ m .len
-unfolding retryOf
-retry-len m j by = cond-len (ltb j (m .len) && roomUp m j by) (liftBoth m j by) m (m .len) (lift-len m j by) refl
+retry-len m j by = retry-kept m j by .len
 
 pub second-step : (k : ℕ) (n : Notes) (m : HintMap) → 0 < k → secondPass k n m ≡ secondPass (k - 1) n (retryOf m (getD (n .at) (k - 1) 0) (getD (n .by) (k - 1) none))
 unfolding secondPass

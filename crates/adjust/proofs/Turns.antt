@@ -5,17 +5,17 @@ use Prim.Native.Nat.{ℕ, zero, suc, _+_, _-_, _≤_, _<_}
 use native.Mathlib.Omega.{arith}
 use lib.Dec.{ltb}
 use borrow.Author.Tests.{ltb-true, ltb-false, lt-ltb, le-ltb}
-use Rattle.fixed.specs.Fixed.{sameF}
 use Rattle.hintmap.specs.declared.map.HintMap.{HintMap}
 use Rattle.stems.specs.Edge.{isPair}
 use Rattle.adjust.specs.declared.Note.{Note}
 use Rattle.adjust.specs.declared.Note.the-variants.{Settled, Missing}
 use Rattle.adjust.specs.declared.Notes.{Notes}
 use Rattle.adjust.specs.declared.Pass.{Pass}
-use Rattle.adjust.specs.Adjust.{edgeAt, movedIn, rescaleOf, withEdge, atScale, slope, decideOf}
-use Rattle.adjust.specs.Pass.{upperOf, notedOf, bothBy, movedBoth, rescaleBoth, settleBy, settleOf, turnOf, passFrom}
+use Rattle.adjust.specs.Adjust.{edgeAt, decideOf}
+use Rattle.adjust.specs.Pass.{upperOf, notedOf, settleBy, settleOf, turnOf, passFrom}
+use Rattle.adjust.proofs.Keeps.{turn-kept}
 
--- ---- the upper edge
+-- ---- the upper edge is the lower one or above it, and an edge of the map
 module _ (m : HintMap) (i : ℕ) where
   upper-by : (a b : Bool) → ltb (i + 1) (m .len) ≡ b → i < m .len → (i ≤ cond (a && b) (i + 1) i) × (cond (a && b) (i + 1) i < m .len)
   upper-by true true e l = (omega arith, ltb-true (i + 1) (m .len) e)
@@ -27,50 +27,33 @@ module _ (m : HintMap) (i : ℕ) where
   upper-is l = upper-by (isPair (edgeAt m i)) (ltb (i + 1) (m .len)) refl l
 
 -- ---- a turn keeps the number of edges, and makes one note at most
-rescale-len : (m : HintMap) (k : ℕ) → rescaleOf m k .len ≡ m .len
-unfolding rescaleOf
-rescale-len m zero = refl
-rescale-len m (suc k) = go (sameF (edgeAt m (suc k) .«cs_coord») (edgeAt m k .«cs_coord»))
-  where
-    go : (b : Bool) → cond b m (withEdge m k (atScale (edgeAt m k) (slope (edgeAt m k) (edgeAt m (suc k))))) .len ≡ m .len
-    go true = refl
-    go false = refl
-
-both-len : (b : Bool) (x y m : HintMap) → x .len ≡ m .len → y .len ≡ m .len → bothBy b x y .len ≡ m .len
-both-len true x y m p q = p
-both-len false x y m p q = q
-
 notes-by : (n : Notes) (j : ℕ) (t : Note) → notedOf n j t .count ≤ n .count + 1
 unfolding notedOf
 notes-by n j Settled = omega arith
 notes-by n j (Missing by) = omega arith
 
 module _ (i j : ℕ) (p : Pass) where
-  settle-by : (b : Bool) → (settleBy b i j p .map .len ≡ p .map .len) × (settleBy b i j p .notes .count ≤ p .notes .count + 1)
-  unfolding movedBoth
-  settle-by true = (refl, omega arith)
-  settle-by false =
-      let by = decideOf (p .map) i j .by in
-      (both-len (ltb i j) (movedIn (movedIn (p .map) i by) j by) (movedIn (p .map) i by) (p .map) refl refl, notes-by (p .notes) j (decideOf (p .map) i j .note))
+  settle-by : (b : Bool) → settleBy b i j p .notes .count ≤ p .notes .count + 1
+  settle-by true = omega arith
+  settle-by false = notes-by (p .notes) j (decideOf (p .map) i j .note)
 
   pub turn-keeps : (turnOf i j p .map .len ≡ p .map .len) × (turnOf i j p .notes .count ≤ p .notes .count + 1)
-  unfolding turnOf settleOf rescaleBoth
-  turn-keeps =
-      let b = edgeAt (p .map) i .locked in
-      let s = settle-by b in
-      let m = settleBy b i j p .map in
-      (both-len (ltb i j) (rescaleOf (rescaleOf m i) j) (rescaleOf m i) m (rescale-len (rescaleOf m i) j ∙ rescale-len m i) (rescale-len m i) ∙ s .0, s .1)
+  unfolding turnOf settleOf
+  turn-keeps = (turn-kept i j p .len, settle-by (edgeAt (p .map) i .locked))
 
 -- ---- the pass
+-- past the last edge it ends
 pub pass-ends : (n i : ℕ) (p : Pass) → p .map .len ≤ i → passFrom n i p ≡ p
 unfolding passFrom
 pass-ends zero i p l = refl
 pass-ends (suc n) i p l = rw (le-ltb i (p .map .len) l)
 
+-- before that it takes a turn
 pass-goes : (n i : ℕ) (p : Pass) → i < p .map .len → passFrom (suc n) i p ≡ passFrom n (upperOf (p .map) i + 1) (turnOf i (upperOf (p .map) i) p)
 unfolding passFrom
 pass-goes n i p l = rw (lt-ltb i (p .map .len) l)
 
+-- a count of turns that is enough gives what any other gives
 enough : (n k i : ℕ) (p : Pass) → p .map .len ≤ n + i → p .map .len ≤ k + i → passFrom n i p ≡ passFrom k i p
 enough zero k i p a b = pass-ends zero i p (omega arith) ∙ sym (pass-ends k i p (omega arith))
 enough (suc n) zero i p a b = pass-ends (suc n) i p (omega arith) ∙ sym (pass-ends zero i p (omega arith))

@@ -1,4 +1,4 @@
--- The second pass of the adjustment, newest note first, and the whole (01, "Adjust").
+-- The second pass of the adjustment, and the whole (01, "The map", Adjust). No scale is set again.
 use mathlib.Core.Bool.{cond, _&&_}
 use Prim.Native.Nat.{ℕ, zero, suc}
 use lib.ListN.{getD, replicate}
@@ -11,25 +11,32 @@ use Rattle.adjust.specs.declared.Pass.{Pass}
 use Rattle.adjust.specs.Adjust.{none, edgeAt, movedIn, roomUp}
 use Rattle.adjust.specs.Pass.{firstPass}
 
--- the hint whose upper edge is j, moved
+-- both edges of the hint whose upper edge is j, moved alike
 unfoldable pub liftBoth : HintMap → ℕ → Fixed → HintMap
 liftBoth m zero by = movedIn m zero by
 liftBoth m (suc j) by = cond (isPair (edgeAt m (suc j))) (movedIn (movedIn m (suc j) by) j by) (movedIn m (suc j) by)
 
--- the missing move is applied to the hint if there is room up for it
+-- a noted hint is moved if there is room by now. That every note is of an edge of the map is proofs/Guards.antt
 unfoldable pub retryOf : HintMap → ℕ → Fixed → HintMap
 retryOf m j by = cond (ltb j (m .len) && roomUp m j by) (liftBoth m j by) m
 
--- the first k notes, the last of them first
+-- the first k notes are tried, the newest of them first
 unfoldable pub secondPass : ℕ → Notes → HintMap → HintMap
 secondPass zero n m = m
 secondPass (suc k) n m = secondPass k n (retryOf m (getD (n .at) k 0) (getD (n .by) k none))
 
+-- before the first pass there are none
 abbrev pub noNotes : Notes
 noNotes = record { at = replicate 96 0; by = replicate 96 none; count = 0 }
 
+-- the map before the first pass
+abbrev pub startOf : HintMap → Pass
+startOf m = record { map = m; notes = noNotes }
+
+-- all notes of a first pass are tried
 abbrev pub secondOf : Pass → HintMap
 secondOf p = secondPass (p .notes .count) (p .notes) (p .map)
 
+-- the map with its hints moved to whole pixels
 unfoldable pub adjustOf : HintMap → HintMap
-adjustOf m = secondOf (firstPass (record { map = m; notes = noNotes }))
+adjustOf m = secondOf (firstPass (startOf m))
