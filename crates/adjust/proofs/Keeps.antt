@@ -33,6 +33,7 @@ pub record Kept (m n : HintMap) : Type 0 where
   pub scale : n .scale ≡ m .scale
   pub edges : map still (n .edges) ≡ map still (m .edges)
 
+-- a map keeps itself, and what is kept twice is kept
 pub kept-refl : (m : HintMap) → Kept m m
 kept-refl m = record { len = refl; valid = refl; scale = refl; edges = refl }
 
@@ -114,6 +115,7 @@ pass-kept (suc n) i p =
     go true q k = k
     go false q k = kept-refl (p .map)
 
+-- the first pass
 pub first-kept : (p : Pass) → Kept (p .map) (firstPass p .map)
 unfolding firstPass
 first-kept p = pass-kept (p .map .len) 0 p
@@ -125,6 +127,7 @@ lift-kept m zero by = moved-kept m zero by
 lift-kept m (suc j) by =
     cond-kept (isPair (edgeAt m (suc j))) (kept-trans (moved-kept m (suc j) by) (moved-kept (movedIn m (suc j) by) j by)) (moved-kept m (suc j) by)
 
+-- a note that is tried
 pub retry-kept : (m : HintMap) (j : ℕ) (by : Fixed) → Kept m (retryOf m j by)
 unfolding retryOf
 retry-kept m j by = cond-kept (ltb j (m .len) && roomUp m j by) (lift-kept m j by) (kept-refl m)
@@ -135,6 +138,32 @@ second-kept zero n m = kept-refl m
 second-kept (suc k) n m =
     let r = retryOf m (getD (n .at) k 0) (getD (n .by) k none) in
     kept-trans (retry-kept m (getD (n .at) k 0) (getD (n .by) k none)) (second-kept k n r)
+
+-- ---- the second pass sets no scale
+abbrev pub scales : HintMap → List Fixed
+scales m = map (λ (e : Hint). e .scale) (m .edges)
+
+moved-scales : (m : HintMap) (k : ℕ) (by : Fixed) → scales (movedIn m k by) ≡ scales m
+moved-scales m k by = map-set-same (λ (e : Hint). e .scale) (m .edges) k (movedHint (edgeAt m k) by) noHint refl
+
+cond-scales : (b : Bool) (m x y : HintMap) → scales x ≡ scales m → scales y ≡ scales m → scales (cond b x y) ≡ scales m
+cond-scales true m x y p q = p
+cond-scales false m x y p q = q
+
+lift-scales : (m : HintMap) (j : ℕ) (by : Fixed) → scales (liftBoth m j by) ≡ scales m
+unfolding liftBoth
+lift-scales m zero by = moved-scales m zero by
+lift-scales m (suc j) by =
+    let n = movedIn m (suc j) by in
+    cond-scales (isPair (edgeAt m (suc j))) m (movedIn n j by) n (moved-scales n j by ∙ moved-scales m (suc j) by) (moved-scales m (suc j) by)
+
+second-scales : (k : ℕ) (n : Notes) (m : HintMap) → scales (secondPass k n m) ≡ scales m
+unfolding secondPass retryOf
+second-scales zero n m = refl
+second-scales (suc k) n m =
+    let j = getD (n .at) k 0 in
+    let by = getD (n .by) k none in
+    second-scales k n (retryOf m j by) ∙ cond-scales (ltb j (m .len) && roomUp m j by) m (liftBoth m j by) m (lift-scales m j by) refl
 
 -- ---- the whole
 -- adjusting changes no edge but on the device, no number of edges, and nothing else of the map
@@ -147,3 +176,10 @@ adjust-kept m =
 -- whole stems stay whole
 pub adjust-stems : (m : HintMap) → Stems (view m) → Stems (view (adjustOf m))
 adjust-stems m s = kept-stems m (adjustOf m) (adjust-kept m) s
+
+-- the scales are those of the first pass
+pub adjust-scales : (m : HintMap) → scales (adjustOf m) ≡ scales (firstPass (startOf m) .map)
+unfolding adjustOf
+adjust-scales m =
+    let p = firstPass (startOf m) in
+    second-scales (p .notes .count) (p .notes) (p .map)

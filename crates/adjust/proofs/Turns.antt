@@ -74,7 +74,7 @@ enough (suc n) (suc k) i p a b = go (ltb i (p .map .len)) refl (λ c d. enough n
         let t = turn-keeps i (upperOf (p .map) i) p in
         pass-goes n i p l ∙ ih (omega arith) (omega arith) ∙ sym (pass-goes k i p l)
 
--- in the words of the loop
+-- a turn in the words of the loop
 pub pass-step : (len i : ℕ) (p : Pass) → p .map .len ≡ len → i < len →
     passFrom (len - i) i p ≡ passFrom (len - (upperOf (p .map) i + 1)) (upperOf (p .map) i + 1) (turnOf i (upperOf (p .map) i) p)
 pass-step len i p e l =

@@ -60,13 +60,13 @@ pub record Own (k : ℕ) (e : Hint) : Type 0 where
   pub number : e .index ≡ k
 
 -- the same as a test
-abbrev ownedBy : ℕ → Hint → Bool
+abbrev pub ownedBy : ℕ → Hint → Bool
 ownedBy k e = not (e .synthetic) && eqb (e .index) k
 
-own-true : (k : ℕ) (e : Hint) → Own k e → ownedBy k e ≡ true
+pub own-true : (k : ℕ) (e : Hint) → Own k e → ownedBy k e ≡ true
 own-true k e o = rw (o .real, o .number, eq-eqb k k refl)
 
-own-of : (k : ℕ) (e : Hint) → ownedBy k e ≡ true → Own k e
+pub own-of : (k : ℕ) (e : Hint) → ownedBy k e ≡ true → Own k e
 own-of k e t = go (e .synthetic) (eqb (e .index) k) refl refl t
   where
     go : (s u : Bool) → e .synthetic ≡ s → eqb (e .index) k ≡ u → (not s && u) ≡ true → Own k e

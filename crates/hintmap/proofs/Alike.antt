@@ -14,7 +14,8 @@ use Rattle.hintmap.specs.Stems.{Past, Stems, none, one, two, Like, Alike
 pub like-device : (x : Hint) (d : Fixed) → Like x (atDevice x d)
 like-device x d = record { kind = refl; index = refl; level = refl }
 
-like-refl : (x : Hint) → Like x x
+-- an edge is like itself
+pub like-refl : (x : Hint) → Like x x
 like-refl x = like-device x (x .«ds_coord»)
 
 -- every list is alike itself

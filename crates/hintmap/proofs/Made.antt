@@ -13,7 +13,8 @@ use Rattle.stems.specs.Edge.{validK, pairK, isValid, shapeOf, edgeOf, usedBy, s
 use Rattle.stems.proofs.Edges.{setup-index}
 use Rattle.hintmap.specs.declared.insert.Edges.the-variants.{One}
 use Rattle.hintmap.specs.Insert.{chosenBy, chosen}
-use Rattle.hintmap.specs.Stems.{Made}
+use Rattle.hintmap.specs.Stems.{Made, Like}
+use Rattle.hintmap.proofs.Alike.{like-refl}
 
 -- a ghost by itself is made
 pub made-ghost : (e : Hint) → (e .kind ≡ GhostBottom) ⊎ (e .kind ≡ GhostTop) → Made (One e)
@@ -42,8 +43,12 @@ module _ (st : StemHint) (i : ℕ) (s : Fixed) where
   unfolding setupOf
   setup-kind b = kept (st .«is_used» && isValid (edgeOf (shapeOf st) b i s)) st (edgeOf (shapeOf st) b i s)
 
-  -- the edges of any stem are made
+  -- two edges that differ from those of a stem on the device only are made
+  pub made-like : (b t : Hint) → Like (setupOf st i s true) b → Like (setupOf st i s false) t → Made (chosen b t)
+  made-like b t p q =
+      by-shape (shapeOf st) i s b t (sym (p .kind) ∙ setup-kind true) (sym (q .kind) ∙ setup-kind false)
+      (sym (p .index) ∙ setup-index st i s true ∙ sym (setup-index st i s false) ∙ q .index)
+
+  -- so are those of the stem
   pub made-setup : Made (chosen (setupOf st i s true) (setupOf st i s false))
-  made-setup =
-      by-shape (shapeOf st) i s (setupOf st i s true) (setupOf st i s false) (setup-kind true) (setup-kind false)
-      (setup-index st i s true ∙ sym (setup-index st i s false))
+  made-setup = made-like _ _ (like-refl _) (like-refl _)

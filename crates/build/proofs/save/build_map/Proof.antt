@@ -1,8 +1,9 @@
 -- `build_map` meets its contract, by those of its calls; no step leaves the room. Assumes nothing.
 use Prim.Native.Nat.{_≤_}
 use native.Mathlib.Omega.{arith}
+use Rattle.adjust.proofs.Keeps.{adjust-kept}
 use Rattle.build.specs.Build.{builtOf}
-use Rattle.build.proofs.Room.{boxed-len, adjust-len}
+use Rattle.build.proofs.Room.{boxed-len}
 use Rattle.build.proofs.Rounds.{locked-round, free-round, round-len}
 use borrow.Author.Needs.{needs}
 use Rattle.build.proofs.save.build_map.Statement.{statement}
@@ -46,7 +47,7 @@ validate-requires c κs = search needs
 save-all-requires : tie.Need-save-all-requires
 save-all-requires c κs =
     let a = c .before in
-    rw (c .validate .ensures, a .adjust .ensures, adjust-len (a .before .before .place-free .result .map)) (placed-len (a .before .before))
+    rw (c .validate .ensures, a .adjust .ensures, adjust-kept (a .before .before .place-free .result .map) .len) (placed-len (a .before .before))
 
 returns : tie.Need-returns
 unfolding builtOf

@@ -1,0 +1,115 @@
+-- Both builds give a map in order, valid and of the state's scale, whatever stems, mask, zones and initial map they get. Assumes nothing.
+use mathlib.Core.Path.{_≡_, refl, _∙_}
+use mathlib.Core.Bool.{Bool, true}
+use mathlib.Core.List.{List}
+use Prim.Native.Nat.{ℕ}
+use Rattle.fixed.specs.declared.Fixed.{Fixed}
+use Rattle.stems.specs.declared.mask.HintMask.{HintMask}
+use Rattle.stems.specs.declared.edge.StemHint.{StemHint}
+use Rattle.zones.specs.declared.state.HintState.{HintState}
+use Rattle.hintmap.specs.declared.map.HintMap.{HintMap}
+use Rattle.hintmap.specs.declared.insert.Edges.{Edges}
+use Rattle.hintmap.specs.declared.insert.Edges.the-variants.{One, Two}
+use Rattle.hintmap.specs.Map.{newMap}
+use Rattle.hintmap.specs.Insert.{putEdges, insertIn}
+use Rattle.hintmap.proofs.Outcome.{by-outcome}
+use Rattle.hintmap.proofs.Stems.{Good, new-good, valid-good, insert-good}
+use Rattle.adjust.specs.Second.{adjustOf}
+use Rattle.adjust.proofs.Keeps.{adjust-kept, kept-length, adjust-stems}
+use Rattle.build.specs.declared.place.Placed.{Placed}
+use Rattle.build.specs.declared.place.Stems.{Stems}
+use Rattle.build.specs.Ghosts.{baselined}
+use Rattle.build.specs.Place.{declaredIn, lockedTurn, freeTurn, lockedTurns, freeTurns}
+use Rattle.build.specs.Build.{boxedMap, initialPlaced, lockedPlaced, placedOf, initialOf, builtOf}
+use Rattle.build.proofs.Steps.{Stable, boxed-keeps, baselined-keeps, locked-keeps, free-keeps}
+use Rattle.build.proofs.Rounds.{locked-round, free-round, round-keeps}
+
+-- ---- what all insertions keep
+module _ (P : HintMap → Type 0) (keep : Stable P) where
+  -- the first round keeps it
+  locked-turns-keep : (st : HintState) (initial : HintMap) (given : Bool) (i : ℕ) (xs : List StemHint) (p : Placed) → P (p .map) → P (lockedTurns st initial given i xs p .map)
+  locked-turns-keep st initial given i xs p h =
+      round-keeps (locked-round st initial given) (λ (j : ℕ) (q : Placed). P (q .map)) (λ j x q. locked-keeps P keep st initial given q j x) i xs p h .1
+
+  -- so does the second
+  free-turns-keep : (s : Fixed) (initial : HintMap) (i : ℕ) (xs : List StemHint) (p : Placed) → P (p .map) → P (freeTurns s initial i xs p .map)
+  free-turns-keep s initial i xs p h =
+      round-keeps (free-round s initial) (λ (j : ℕ) (q : Placed). P (q .map)) (λ j x q. free-keeps P keep s initial q j x) i xs p h .1
+
+  module _ (st : HintState) (ss : Stems) (new : P (newMap (st .scale))) where
+    -- so it holds of what both builds adjust, if it holds of a new map
+    boxed-holds : (initial : HintMap) (given : Bool) → P (boxedMap st initial given)
+    boxed-holds initial given = boxed-keeps P keep (st .«do_em_box_hints») initial given (newMap (st .scale)) new
+
+    initial-holds : P (baselined (initialPlaced st ss .map))
+    initial-holds = baselined-keeps P keep _ (locked-turns-keep st _ _ 0 (declaredIn ss) _ (boxed-holds _ _))
+
+    placed-holds : (mask : HintMask) (initial : HintMap) → P (placedOf st mask initial ss)
+    placed-holds mask initial = free-turns-keep (st .scale) initial 0 (declaredIn ss) _ (locked-turns-keep st initial true 0 (declaredIn ss) _ (boxed-holds initial true))
+
+-- ---- in order
+pub in-order : Stable Good
+in-order m e initial given made g = insert-good m e initial given made g
+
+-- a turn of the first round keeps the map in order
+pub locked-turn-good : (st : HintState) (initial : HintMap) (given : Bool) (p : Placed) (i : ℕ) (x : StemHint) → Good (p .map) → Good (lockedTurn st initial given p i x .map)
+locked-turn-good = locked-keeps Good in-order
+
+-- so does a turn of the second
+pub free-turn-good : (s : Fixed) (initial : HintMap) (p : Placed) (i : ℕ) (x : StemHint) → Good (p .map) → Good (freeTurn s initial p i x .map)
+free-turn-good = free-keeps Good in-order
+
+-- so does a whole round
+pub locked-turns-good : (st : HintState) (initial : HintMap) (given : Bool) (i : ℕ) (xs : List StemHint) (p : Placed) → Good (p .map) → Good (lockedTurns st initial given i xs p .map)
+locked-turns-good = locked-turns-keep Good in-order
+
+pub free-turns-good : (s : Fixed) (initial : HintMap) (i : ℕ) (xs : List StemHint) (p : Placed) → Good (p .map) → Good (freeTurns s initial i xs p .map)
+free-turns-good = free-turns-keep Good in-order
+
+-- so does the adjustment
+pub adjust-good : (m : HintMap) → Good m → Good (adjustOf m)
+adjust-good m g =
+    let k = adjust-kept m in
+    record { within = rw (k .len) (g .within); long = kept-length m (adjustOf m) k ∙ g .long; stems = adjust-stems m (g .stems) }
+
+-- the initial map is in order
+pub initial-good : (st : HintState) (ss : Stems) → Good (initialOf st ss)
+unfolding initialOf
+initial-good st ss =
+    valid-good _ (adjust-good _ (initial-holds Good in-order st ss (new-good (st .scale))))
+
+-- so is every other map
+pub built-good : (st : HintState) (mask : HintMask) (initial : HintMap) (ss : Stems) → Good (builtOf st mask initial ss .map)
+unfolding builtOf
+built-good st mask initial ss = valid-good _ (adjust-good _ (placed-holds Good in-order st ss (new-good (st .scale)) mask initial))
+
+-- ---- valid, and of the state's scale
+-- both builds give a valid map
+pub initial-valid : (st : HintState) (ss : Stems) → initialOf st ss .«is_valid» ≡ true
+unfolding initialOf
+initial-valid st ss = refl
+
+pub built-valid : (st : HintState) (mask : HintMask) (initial : HintMap) (ss : Stems) → builtOf st mask initial ss .map .«is_valid» ≡ true
+unfolding builtOf
+built-valid st mask initial ss = refl
+
+put-scale : (m : HintMap) (at : ℕ) (e : Edges) → putEdges m at e .scale ≡ m .scale
+unfolding putEdges
+put-scale m at (One e) = refl
+put-scale m at (Two b t) = refl
+
+module _ (st : HintState) where
+  abbrev Scaled : HintMap → Type 0
+  Scaled m = m .scale ≡ st .scale
+
+  scaled : Stable Scaled
+  scaled m e initial given made h = by-outcome m e initial given Scaled h (λ c. put-scale m _ _ ∙ h)
+
+  -- both are of the state's scale
+  pub initial-scale : (ss : Stems) → initialOf st ss .scale ≡ st .scale
+  unfolding initialOf
+  initial-scale ss = adjust-kept _ .scale ∙ initial-holds Scaled scaled st ss refl
+
+  pub built-scale : (mask : HintMask) (initial : HintMap) (ss : Stems) → builtOf st mask initial ss .map .scale ≡ st .scale
+  unfolding builtOf
+  built-scale mask initial ss = adjust-kept _ .scale ∙ placed-holds Scaled scaled st ss refl mask initial

@@ -1,0 +1,90 @@
+-- The calls on a drawing (01, "Path records"): a pure step, which room commits or not.
+use mathlib.Core.Path.{_≡_}
+use mathlib.Core.Bool.{Bool, true, false}
+use mathlib.Core.List.{List}
+use lib.IntN.{ℤ}
+use lib.ListN.{length}
+use Rattle.fixed.specs.declared.Fixed.{Fixed}
+use Rattle.stems.specs.declared.mask.HintMask.{HintMask}
+use Rattle.zones.specs.declared.state.HintState.{HintState}
+use Rattle.pen.specs.declared.strokes.Point.{Point}
+use Rattle.pen.specs.declared.strokes.Pen.{Pen}
+use Rattle.pen.specs.declared.strokes.Stroke.{Stroke}
+use Rattle.pen.specs.Records.{noRecords, wordsOf, pickWords, written, fits}
+use Rattle.pen.specs.Strokes.{moveOf, lineOf, curveOf, finishOf}
+use Rattle.drawing.specs.declared.hints.Hints.{Hints}
+use Rattle.drawing.specs.declared.calls.Drawing.{Drawing}
+use Rattle.drawing.specs.declared.calls.After.{After}
+use Rattle.drawing.specs.declared.calls.Answer.the-variants.{Wrote, NoRoom}
+use Rattle.drawing.specs.Hints.{newHints, withStem, withMask, countered, readyOf, devicePoint}
+
+-- what a drawing is asked
+pub data Call : Type 0 where
+  stem : Fixed → Fixed → Call
+  hintMask : HintMask → Call
+  counterMask : HintMask → Call
+  clear : Call
+  move : Point → Call
+  line : Point → Call
+  curve : Point → Point → Point → Call
+  close : Call
+  finish : Call
+
+-- ---- the step
+-- the hints that a call leaves: a point has the current map built first
+abbrev pub hintsOf : HintState → Hints → Call → Hints
+hintsOf st h (stem min max) = withStem min max h
+hintsOf st h (hintMask m) = withMask m h
+hintsOf st h (counterMask m) = countered st m h
+hintsOf st h clear = newHints (st .scale)
+hintsOf st h (move p) = readyOf st h
+hintsOf st h (line p) = readyOf st h
+hintsOf st h (curve p q r) = readyOf st h
+hintsOf st h close = h
+hintsOf st h finish = h
+
+-- a point by the current map
+abbrev pub placed : HintState → Hints → Point → Point
+placed st h p = devicePoint (readyOf st h .map) (st .scale) p
+
+abbrev pub still : Pen → Stroke
+still pen = record { pen = pen; records = noRecords }
+
+-- the stroke of a call; one with no points leaves the pen as it is
+abbrev pub strokeOf : HintState → Hints → Pen → Call → Stroke
+strokeOf st h pen (stem min max) = still pen
+strokeOf st h pen (hintMask m) = still pen
+strokeOf st h pen (counterMask m) = still pen
+strokeOf st h pen clear = still pen
+strokeOf st h pen (move p) = moveOf pen p (placed st h p)
+strokeOf st h pen (line p) = lineOf pen p (placed st h p)
+strokeOf st h pen (curve p q r) = curveOf pen (placed st h p) (placed st h q) (placed st h r)
+strokeOf st h pen close = still pen
+strokeOf st h pen finish = finishOf pen
+
+-- the drawing after a call that fits, and the words that it writes
+abbrev pub nextOf : HintState → Drawing → Call → Drawing
+nextOf st d c = record { hints = hintsOf st (d .hints) c; pen = strokeOf st (d .hints) (d .pen) c .pen }
+
+abbrev pub wordsFor : HintState → Drawing → Call → List ℤ
+wordsFor st d c = wordsOf (strokeOf st (d .hints) (d .pen) c .records)
+
+-- ---- room
+-- with room for its words a call is done, and else the drawing is as it was
+abbrev pub afterBy : Bool → HintState → Drawing → Call → After
+afterBy true st d c = record { drawing = nextOf st d c; answer = Wrote (length (wordsFor st d c)) }
+afterBy false st d c = record { drawing = d; answer = NoRoom }
+
+-- the outcome of a call: its answer, and what is lent
+pub record Called (st : HintState) (d : Drawing) (c : Call) (out : List ℤ) (said : After) (left : List ℤ) : Type 0 where
+  pub answer : said ≡ afterBy (fits (wordsFor st d c) out) st d c
+  pub memory : left ≡ pickWords (fits (wordsFor st d c) out) (written (wordsFor st d c) out) out
+
+-- the same, of hints and a stroke that are made already
+abbrev pub commitBy : Bool → Drawing → Hints → Stroke → After
+commitBy true d h s = record { drawing = record { hints = h; pen = s .pen }; answer = Wrote (length (wordsOf (s .records))) }
+commitBy false d h s = record { drawing = d; answer = NoRoom }
+
+pub record Committed (d : Drawing) (h : Hints) (s : Stroke) (out : List ℤ) (said : After) (left : List ℤ) : Type 0 where
+  pub answer : said ≡ commitBy (fits (wordsOf (s .records)) out) d h s
+  pub memory : left ≡ pickWords (fits (wordsOf (s .records)) out) (written (wordsOf (s .records)) out) out

@@ -1,0 +1,4 @@
+pub mod Hints
+pub mod Calls
+pub mod Open
+pub mod Reached

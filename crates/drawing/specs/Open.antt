@@ -1,0 +1,52 @@
+-- Opening a drawing without a script (01, after its table).
+use mathlib.Core.Bool.{Bool, true, false, _&&_}
+use lib.Dec.{leb}
+use lib.IntN.{pos}
+use lib.ListN.{replicate}
+use Rattle.fixed.specs.declared.Fixed.{Fixed}
+use Rattle.fixed.specs.Fixed.{fromBits, lessF}
+use Rattle.zones.specs.declared.state.HintParams.{HintParams}
+use Rattle.zones.specs.declared.state.HintState.{HintState}
+use Rattle.zones.specs.Zones.{noZone}
+use Rattle.zones.specs.State.{stateOf}
+use Rattle.pen.specs.Strokes.{newPen}
+use Rattle.drawing.specs.declared.calls.Drawing.{Drawing}
+use Rattle.drawing.specs.declared.opening.Opening.{Opening}
+use Rattle.drawing.specs.declared.opening.Opening.the-variants.{Ok, BadScale, BadBlues}
+use Rattle.drawing.specs.declared.opening.Opened.{Opened}
+use Rattle.drawing.specs.Hints.{none, newHints}
+
+abbrev pub newDrawing : Fixed → Drawing
+newDrawing s = record { hints = newHints s; pen = newPen }
+
+-- every list has at most seven pairs
+unfoldable pub countsFit : HintParams → Bool
+countsFit p =
+    leb (p .blues .count) 7 && (leb (p .«other_blues» .count) 7 && (leb (p .«family_blues» .count) 7 && leb (p .«family_other_blues» .count) 7))
+
+-- scale 1.0, all else 0
+abbrev pub refusedState : HintState
+refusedState =
+    record {
+      scale = fromBits (pos 65536);
+      «blue_scale» = none;
+      «blue_shift» = none;
+      «blue_fuzz» = none;
+      «suppress_overshoot» = false;
+      «do_em_box_hints» = false;
+      boost = none;
+      zones = replicate 12 noZone;
+      «zone_count» = 0;
+    }
+
+abbrev pub refusedBy : Opening → Opened
+refusedBy a = record { answer = a; state = refusedState; drawing = newDrawing (fromBits (pos 65536)) }
+
+-- the scale is refused first, then the counts
+abbrev pub openBy : Bool → Bool → HintParams → Fixed → Opened
+openBy true fit p s = refusedBy BadScale
+openBy false false p s = refusedBy BadBlues
+openBy false true p s = record { answer = Ok; state = stateOf p s; drawing = newDrawing s }
+
+unfoldable pub openOf : HintParams → Fixed → Opened
+openOf p s = openBy (lessF s (fromBits (pos 1))) (countsFit p) p s

@@ -1,0 +1,21 @@
+// The state of one drawing, and the calls on it (01, "Path records" and the rows on lone calls and opening).
+mod calls;
+mod hints;
+mod opening;
+
+pub use calls::After;
+pub use calls::Answer;
+pub use calls::Drawing;
+pub use calls::clear_hints;
+pub use calls::close;
+pub use calls::counter_mask;
+pub use calls::curve_to;
+pub use calls::finish;
+pub use calls::hint_mask;
+pub use calls::hstem;
+pub use calls::line_to;
+pub use calls::move_to;
+pub use hints::Hints;
+pub use opening::Opened;
+pub use opening::Opening;
+pub use opening::open;

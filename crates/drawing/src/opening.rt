@@ -1,0 +1,104 @@
+// Opening a drawing without a script.
+use crate::calls::Drawing;
+use crate::hints::Hints;
+use fixed::Fixed;
+use pen::Pen;
+use zones::BlueZone;
+use zones::HintParams;
+use zones::HintState;
+ghost use mathlib.Core.Path.{_≡_};
+ghost use Rattle.drawing.specs.Open.{newDrawing, refusedState, refusedBy, countsFit, openOf};
+
+// How opening ended.
+pub enum Opening {
+    Ok,
+    BadScale,
+    BadBlues,
+}
+
+// The answer, the zones, and the drawing beside them.
+pub struct Opened {
+    pub answer: Opening,
+    pub state: HintState,
+    pub drawing: Drawing,
+}
+
+// From `HintingSink::new`.
+pub fn new_drawing(scale: Fixed) -> Drawing
+    ensures { λ r. ⌜ r ≡ newDrawing scale ⌝ }
+{
+    let hints = Hints::new(scale);
+    let pen = Pen::new();
+    Drawing { hints, pen }
+}
+
+// Every list has at most seven pairs.
+fn counts_fit(params: HintParams) -> bool
+    ensures { λ r. ⌜ r ≡ countsFit params ⌝ }
+{
+    let blues = params.blues;
+    let others = params.other_blues;
+    let family = params.family_blues;
+    let family_others = params.family_other_blues;
+    if 7 < blues.count {
+        return false;
+    }
+    if 7 < others.count {
+        return false;
+    }
+    if 7 < family.count {
+        return false;
+    }
+    family_others.count <= 7
+}
+
+// The zones beside a refused opening: scale 1.0 and all else 0.
+fn refused_state() -> HintState
+    ensures { λ r. ⌜ r ≡ refusedState ⌝ }
+{
+    let none = BlueZone {
+        is_bottom: false,
+        cs_bottom_edge: Fixed::ZERO,
+        cs_top_edge: Fixed::ZERO,
+        cs_flat_edge: Fixed::ZERO,
+        ds_flat_edge: Fixed::ZERO,
+    };
+    HintState {
+        scale: Fixed::ONE,
+        blue_scale: Fixed::ZERO,
+        blue_shift: Fixed::ZERO,
+        blue_fuzz: Fixed::ZERO,
+        suppress_overshoot: false,
+        do_em_box_hints: false,
+        boost: Fixed::ZERO,
+        zones: [none; 12],
+        zone_count: 0,
+    }
+}
+
+fn refused(answer: Opening) -> Opened
+    ensures { λ r. ⌜ r ≡ refusedBy answer ⌝ }
+{
+    Opened {
+        answer,
+        state: refused_state(),
+        drawing: new_drawing(Fixed::ONE),
+    }
+}
+
+// Opens a drawing at a scale, or refuses the scale, then the counts.
+pub fn open(params: HintParams, scale: Fixed) -> Opened
+    ensures { λ r. ⌜ r ≡ openOf params scale ⌝ }
+{
+    if scale.bits < 1 {
+        return refused(Opening::BadScale);
+    }
+    if !counts_fit(params) {
+        return refused(Opening::BadBlues);
+    }
+    Opened {
+        answer: Opening::Ok,
+        state: HintState::new(params, scale),
+        drawing: new_drawing(scale),
+    }
+}
