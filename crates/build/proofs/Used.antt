@@ -219,11 +219,11 @@ locked-places st initial given i x p has =
     (places-fewer (Waits i (p .rest)) (Waits (suc i) (p .rest)) (p .map) has (λ k. ⊎-elim (λ h. inl (omega arith)) inr))
     st given
     (λ e. places-more (Waits i (p .rest)) (Waits (suc i) (cleared (p .rest) i)) (p .map) has i _ _
-      (sym (ready-like st x i .0 .index) ∙ setup-index x i (st .scale) true) (sym (ready-like st x i .1 .index) ∙ setup-index x i (st .scale) false)
-      (made-ready st x i) (inl (le-refl i))
-      (⊎-elim (λ h. omega arith) (λ a. true≢false (sym a ∙ clear-off (p .rest) i)))
-      (λ k d. ⊎-elim (λ h. inl (omega arith)) (λ a. inr (sym (clear-keeps (p .rest) i k (λ w. d (sym w))) ∙ a)))
-      initial given)
+    (sym (ready-like st x i .0 .index) ∙ setup-index x i (st .scale) true) (sym (ready-like st x i .1 .index) ∙ setup-index x i (st .scale) false)
+    (made-ready st x i) (inl (le-refl i))
+    (⊎-elim (λ h. omega arith) (λ a. true≢false (sym a ∙ clear-off (p .rest) i)))
+    (λ k d. ⊎-elim (λ h. inl (omega arith)) (λ a. inr (sym (clear-keeps (p .rest) i k (λ w. d (sym w))) ∙ a)))
+    initial given)
 
 -- in the second none that is still to come and not handled
 abbrev Awaits : ℕ → HintMask → ℕ → Type 0
@@ -237,7 +237,7 @@ free-places s initial i x p has =
     (places-fewer (Awaits i (p .rest)) (Awaits (suc i) (p .rest)) (p .map) has (λ k h. (omega arith, h .1)))
     s
     (λ e. places-more (Awaits i (p .rest)) (Awaits (suc i) (p .rest)) (p .map) has i _ _
-      (setup-index x i s true) (setup-index x i s false) (made-setup x i s) (le-refl i, e) (λ h. omega arith) (λ k d h. (omega arith, h .1)) initial true)
+    (setup-index x i s true) (setup-index x i s false) (made-setup x i s) (le-refl i, e) (λ h. omega arith) (λ k d h. (omega arith, h .1)) initial true)
 
 module _ (st : HintState) (mask : HintMask) (initial : HintMap) (ss : Stems) where
   abbrev built : Built

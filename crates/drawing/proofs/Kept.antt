@@ -15,12 +15,10 @@ use Rattle.zones.specs.declared.state.HintState.{HintState}
 use Rattle.zones.specs.State.{Counted, stateOf}
 use Rattle.zones.proofs.Keep.{state-count}
 use Rattle.hintmap.specs.declared.map.HintMap.{HintMap}
-use Rattle.hintmap.specs.Map.{newMap, view}
+use Rattle.hintmap.specs.Map.{view}
 use Rattle.hintmap.proofs.Tests.{both}
 use Rattle.build.specs.declared.place.Stems.{Stems}
-use Rattle.build.specs.Ghosts.{baselined}
-use Rattle.build.specs.Place.{declaredIn}
-use Rattle.build.specs.Build.{initialPlaced, initialOf, placedOf, builtOf}
+use Rattle.build.specs.Build.{initialOf, builtOf}
 use Rattle.build.proofs.Sound.{initial-good, built-good}
 use Rattle.build.proofs.Saved.{saved-keeps}
 use Rattle.drawing.specs.declared.hints.Hints.{Hints}

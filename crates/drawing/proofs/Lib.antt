@@ -1,3 +1,4 @@
 pub mod Kept
 pub mod Outcome
 pub mod Unique
+pub mod Demand3
