@@ -3,4 +3,6 @@ pub mod Room
 pub mod Rounds
 pub mod Saved
 pub mod Sound
+pub mod Once
 pub mod Used
+pub mod Unique

@@ -37,15 +37,17 @@ abbrev pub Left : (ℕ → List StemHint → Placed → Placed) → Stems → Pl
 Left turns ss p q i = (turns i (drop i (declaredIn ss)) q ≡ turns 0 (declaredIn ss) p) × ((i ≤ ss .count) × (q .map .len ≤ 96))
 
 module _ {turn : Placed → ℕ → StemHint → Placed} {turns : ℕ → List StemHint → Placed → Placed} (r : Round turn turns) where
-  -- what each turn hands on to the next, some turn hands on at the end
-  pub round-keeps : (P : ℕ → Placed → Type 0) → ((i : ℕ) (x : StemHint) (p : Placed) → P i p → P (suc i) (turn p i x)) →
-      (i : ℕ) (xs : List StemHint) (p : Placed) → P i p → (j : ℕ) × P j (turns i xs p)
-  round-keeps P f i [] p h = (i, rw (r .ends i p) h)
-  round-keeps P f i (x ∷ xs) p h = rw (r .more i x xs p) (round-keeps P f (suc i) xs (turn p i x) (f i x p h))
+  -- what holds at stem i, and holds at the next after a turn, holds after the round
+  pub round-keeps : (n : ℕ) (P : ℕ → Placed → Type 0) → ((i : ℕ) (x : StemHint) (p : Placed) → i < n → P i p → P (suc i) (turn p i x)) →
+      (i : ℕ) (xs : List StemHint) (p : Placed) → i + length xs ≡ n → P i p → P n (turns i xs p)
+  round-keeps n P f i [] p e h =
+      let q : i ≡ n = omega arith in
+      rw (r .ends i p) (rw q at h)
+  round-keeps n P f i (x ∷ xs) p e h = rw (r .more i x xs p) (round-keeps n P f (suc i) xs (turn p i x) (omega arith) (f i x p (omega arith) h))
 
   -- a round leaves at most 96 edges
   pub round-len : (i : ℕ) (xs : List StemHint) (p : Placed) → p .map .len ≤ 96 → turns i xs p .map .len ≤ 96
-  round-len i xs p h = round-keeps (λ (j : ℕ) (q : Placed). q .map .len ≤ 96) (λ j x q. r .few q j x) i xs p h .1
+  round-len i xs p h = round-keeps (i + length xs) (λ (j : ℕ) (q : Placed). q .map .len ≤ 96) (λ j x q l. r .few q j x) i xs p refl h
 
   -- a turn takes stem i
   pub left-more : (ss : Stems) (p q : Placed) (i : ℕ) (d : StemHint) → ss .count ≤ length (ss .list) → i < ss .count → Left turns ss p q i → Left turns ss p (turn q i (getD (ss .list) i d)) (i + 1)

@@ -2,7 +2,8 @@
 use mathlib.Core.Path.{_≡_, refl, _∙_}
 use mathlib.Core.Bool.{Bool, true}
 use mathlib.Core.List.{List}
-use Prim.Native.Nat.{ℕ}
+use Prim.Native.Nat.{ℕ, _+_}
+use lib.ListN.{length}
 use Rattle.fixed.specs.declared.Fixed.{Fixed}
 use Rattle.stems.specs.declared.mask.HintMask.{HintMask}
 use Rattle.stems.specs.declared.edge.StemHint.{StemHint}
@@ -11,7 +12,7 @@ use Rattle.hintmap.specs.declared.map.HintMap.{HintMap}
 use Rattle.hintmap.specs.declared.insert.Edges.{Edges}
 use Rattle.hintmap.specs.declared.insert.Edges.the-variants.{One, Two}
 use Rattle.hintmap.specs.Map.{newMap}
-use Rattle.hintmap.specs.Insert.{putEdges, insertIn}
+use Rattle.hintmap.specs.Insert.{putEdges}
 use Rattle.hintmap.proofs.Outcome.{by-outcome}
 use Rattle.hintmap.proofs.Stems.{Good, new-good, valid-good, insert-good}
 use Rattle.adjust.specs.Second.{adjustOf}
@@ -20,7 +21,7 @@ use Rattle.build.specs.declared.place.Placed.{Placed}
 use Rattle.build.specs.declared.place.Stems.{Stems}
 use Rattle.build.specs.Ghosts.{baselined}
 use Rattle.build.specs.Place.{declaredIn, lockedTurn, freeTurn, lockedTurns, freeTurns}
-use Rattle.build.specs.Build.{boxedMap, initialPlaced, lockedPlaced, placedOf, initialOf, builtOf}
+use Rattle.build.specs.Build.{boxedMap, initialPlaced, placedOf, initialOf, builtOf}
 use Rattle.build.proofs.Steps.{Stable, boxed-keeps, baselined-keeps, locked-keeps, free-keeps}
 use Rattle.build.proofs.Rounds.{locked-round, free-round, round-keeps}
 
@@ -29,12 +30,12 @@ module _ (P : HintMap → Type 0) (keep : Stable P) where
   -- the first round keeps it
   locked-turns-keep : (st : HintState) (initial : HintMap) (given : Bool) (i : ℕ) (xs : List StemHint) (p : Placed) → P (p .map) → P (lockedTurns st initial given i xs p .map)
   locked-turns-keep st initial given i xs p h =
-      round-keeps (locked-round st initial given) (λ (j : ℕ) (q : Placed). P (q .map)) (λ j x q. locked-keeps P keep st initial given q j x) i xs p h .1
+      round-keeps (locked-round st initial given) (i + length xs) (λ (j : ℕ) (q : Placed). P (q .map)) (λ j x q l. locked-keeps P keep st initial given q j x) i xs p refl h
 
   -- so does the second
   free-turns-keep : (s : Fixed) (initial : HintMap) (i : ℕ) (xs : List StemHint) (p : Placed) → P (p .map) → P (freeTurns s initial i xs p .map)
   free-turns-keep s initial i xs p h =
-      round-keeps (free-round s initial) (λ (j : ℕ) (q : Placed). P (q .map)) (λ j x q. free-keeps P keep s initial q j x) i xs p h .1
+      round-keeps (free-round s initial) (i + length xs) (λ (j : ℕ) (q : Placed). P (q .map)) (λ j x q l. free-keeps P keep s initial q j x) i xs p refl h
 
   module _ (st : HintState) (ss : Stems) (new : P (newMap (st .scale))) where
     -- so it holds of what both builds adjust, if it holds of a new map
@@ -48,23 +49,20 @@ module _ (P : HintMap → Type 0) (keep : Stable P) where
     placed-holds mask initial = free-turns-keep (st .scale) initial 0 (declaredIn ss) _ (locked-turns-keep st initial true 0 (declaredIn ss) _ (boxed-holds initial true))
 
 -- ---- in order
-pub in-order : Stable Good
-in-order m e initial given made g = insert-good m e initial given made g
-
 -- a turn of the first round keeps the map in order
 pub locked-turn-good : (st : HintState) (initial : HintMap) (given : Bool) (p : Placed) (i : ℕ) (x : StemHint) → Good (p .map) → Good (lockedTurn st initial given p i x .map)
-locked-turn-good = locked-keeps Good in-order
+locked-turn-good = locked-keeps Good insert-good
 
 -- so does a turn of the second
 pub free-turn-good : (s : Fixed) (initial : HintMap) (p : Placed) (i : ℕ) (x : StemHint) → Good (p .map) → Good (freeTurn s initial p i x .map)
-free-turn-good = free-keeps Good in-order
+free-turn-good = free-keeps Good insert-good
 
 -- so does a whole round
 pub locked-turns-good : (st : HintState) (initial : HintMap) (given : Bool) (i : ℕ) (xs : List StemHint) (p : Placed) → Good (p .map) → Good (lockedTurns st initial given i xs p .map)
-locked-turns-good = locked-turns-keep Good in-order
+locked-turns-good = locked-turns-keep Good insert-good
 
 pub free-turns-good : (s : Fixed) (initial : HintMap) (i : ℕ) (xs : List StemHint) (p : Placed) → Good (p .map) → Good (freeTurns s initial i xs p .map)
-free-turns-good = free-turns-keep Good in-order
+free-turns-good = free-turns-keep Good insert-good
 
 -- so does the adjustment
 pub adjust-good : (m : HintMap) → Good m → Good (adjustOf m)
@@ -76,12 +74,12 @@ adjust-good m g =
 pub initial-good : (st : HintState) (ss : Stems) → Good (initialOf st ss)
 unfolding initialOf
 initial-good st ss =
-    valid-good _ (adjust-good _ (initial-holds Good in-order st ss (new-good (st .scale))))
+    valid-good _ (adjust-good _ (initial-holds Good insert-good st ss (new-good (st .scale))))
 
 -- so is every other map
 pub built-good : (st : HintState) (mask : HintMask) (initial : HintMap) (ss : Stems) → Good (builtOf st mask initial ss .map)
 unfolding builtOf
-built-good st mask initial ss = valid-good _ (adjust-good _ (placed-holds Good in-order st ss (new-good (st .scale)) mask initial))
+built-good st mask initial ss = valid-good _ (adjust-good _ (placed-holds Good insert-good st ss (new-good (st .scale)) mask initial))
 
 -- ---- valid, and of the state's scale
 -- both builds give a valid map

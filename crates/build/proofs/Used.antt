@@ -1,243 +1,22 @@
--- Which stems are used after a build, and the heights that they have: those of the map's edges, since no stem has two edges of one side in it. Assumes nothing.
-use mathlib.Core.Path.{_≡_, refl, sym, ap, _∙_}
-use mathlib.Core.Bool.{Bool, true, false, not, _&&_, and-false, true≢false, false≢true}
-use mathlib.Core.List.{List, [], _∷_, _++_, map}
-use mathlib.Core.Logic.{_⊎_, inl, inr, ⊎-elim}
-use Prim.Native.Nat.{ℕ, zero, suc, _+_, _≤_, _<_}
-use native.Mathlib.Nat.{le-refl, lt-irrefl}
+-- Which stems are used after a build, and the heights that they have: those of the map's edges. Assumes nothing.
+use mathlib.Core.Path.{_≡_, refl, sym}
+use mathlib.Core.Bool.{false}
+use mathlib.Core.List.{List}
+use Prim.Native.Nat.{ℕ, _<_}
+use native.Mathlib.Nat.{lt-irrefl}
 use native.Mathlib.Omega.{arith}
-use lib.Dec.{eqb, ltb}
-use lib.ListN.{length, take, drop, getD, take-append-drop}
-use borrow.Author.Tests.{eqb-true, eqb-false, ltb-true, ltb-false}
-use Rattle.fixed.specs.declared.Fixed.{Fixed}
+use lib.ListN.{length, getD, length-take}
 use Rattle.stems.specs.declared.mask.HintMask.{HintMask}
-use Rattle.stems.specs.declared.edge.StemHint.{StemHint}
 use Rattle.stems.specs.declared.edge.Hint.{Hint}
-use Rattle.stems.specs.Mask.{isActive, cleared}
-use Rattle.stems.specs.Edge.{noHint, topK, isValid, isTop}
-use Rattle.stems.proofs.Masks.{clear-off, clear-keeps}
-use Rattle.stems.proofs.Edges.{setup-index}
+use Rattle.stems.specs.Edge.{noHint, isTop}
 use Rattle.zones.specs.declared.state.HintState.{HintState}
 use Rattle.hintmap.specs.declared.map.HintMap.{HintMap}
-use Rattle.hintmap.specs.declared.insert.Edges.{Edges}
-use Rattle.hintmap.specs.declared.insert.Edges.the-variants.{One, Two}
-use Rattle.hintmap.specs.Map.{newMap, view}
-use Rattle.hintmap.specs.Insert.{chosenBy, chosen, firstOf, edgesOf, again, placedBy, putEdges, placeFor, placedFor, insertIn}
-use Rattle.hintmap.specs.Stems.{Made}
-use Rattle.hintmap.proofs.Outcome.{Clear, by-outcome, view-placed}
-use Rattle.hintmap.proofs.Stems.{Good, new-good, insert-good}
-use Rattle.hintmap.proofs.Made.{made-setup}
-use Rattle.adjust.specs.Second.{adjustOf}
-use Rattle.adjust.proofs.Keeps.{still, adjust-kept}
-use Rattle.build.specs.declared.place.Placed.{Placed}
+use Rattle.hintmap.specs.Map.{view}
 use Rattle.build.specs.declared.place.Stems.{Stems}
 use Rattle.build.specs.declared.save.Built.{Built}
-use Rattle.build.specs.Ghosts.{emBottom, emTop, emBoxed}
-use Rattle.build.specs.Place.{declaredIn, lockedTurn, freeTurn}
-use Rattle.build.specs.Build.{boxedMap, lockedPlaced, placedOf, builtOf}
-use Rattle.build.proofs.Steps.{boxed-keeps, ready-like, made-ready, made-box-bottom, made-box-top, locked-cases, free-cases}
-use Rattle.build.proofs.Rounds.{locked-round, free-round, round-keeps}
-use Rattle.build.proofs.Sound.{in-order}
-use Rattle.build.proofs.Saved.{stemAt, Own, ownedBy, own-true, own-of, Keeps, saved-keeps, Uses, saved-used, heightOf, Bears, saved-heights}
-
--- ---- how many edges of a list are stem k's tops (true), or are its others
-abbrev sideBy : Bool → Bool → Bool
-sideBy true t = t
-sideBy false t = not t
-
-abbrev bearsBy : Bool → ℕ → Hint → Bool
-bearsBy top k e = ownedBy k e && sideBy top (isTop e)
-
-abbrev moreBy : Bool → ℕ → ℕ
-moreBy true n = suc n
-moreBy false n = n
-
-unfoldable tally : Bool → ℕ → List Hint → ℕ
-tally top k [] = 0
-tally top k (e ∷ es) = moreBy (bearsBy top k e) (tally top k es)
-
--- the test is that of Bears
-bears-true : (top : Bool) (k : ℕ) (e : Hint) → Bears top k e → bearsBy top k e ≡ true
-bears-true true k e b = rw (own-true k e (b .own), b .side)
-bears-true false k e b = rw (own-true k e (b .own), b .side)
-
-no-bears : (top : Bool) (k : ℕ) (e : Hint) → (Bears top k e → ⊥) → bearsBy top k e ≡ false
-no-bears top k e n = go top (ownedBy k e) (isTop e) refl refl n
-  where
-    go : (p o t : Bool) → ownedBy k e ≡ o → isTop e ≡ t → (Bears p k e → ⊥) → (o && sideBy p t) ≡ false
-    go p false t q r m = refl
-    go true true true q r m = absurd (m (record { own = own-of k e q; side = r }))
-    go false true true q r m = refl
-    go true true false q r m = refl
-    go false true false q r m = absurd (m (record { own = own-of k e q; side = r }))
-
-more-add : (b : Bool) (n m : ℕ) → moreBy b (n + m) ≡ moreBy b n + m
-more-add true n m = omega arith
-more-add false n m = refl
-
-more-one : (b : Bool) → moreBy b 0 ≤ 1
-more-one true = omega arith
-more-one false = omega arith
-
-more-least : (b : Bool) (n : ℕ) → n ≤ moreBy b n
-more-least true n = omega arith
-more-least false n = omega arith
-
-module _ (top : Bool) (k : ℕ) where
-  tally-append : (xs ys : List Hint) → tally top k (xs ++ ys) ≡ tally top k xs + tally top k ys
-  unfolding tally
-  tally-append [] ys = omega arith
-  tally-append (x ∷ xs) ys = ap (moreBy (bearsBy top k x)) (tally-append xs ys) ∙ more-add (bearsBy top k x) (tally top k xs) (tally top k ys)
-
-  -- an edge that bears counts, and two count twice
-  tally-has : (es : List Hint) (j : ℕ) → j < length es → Bears top k (getD es j noHint) → 1 ≤ tally top k es
-  unfolding tally
-  tally-has [] j h b = absurd (omega arith)
-  tally-has (e ∷ es) zero h b = rw (bears-true top k e b) (omega arith)
-  tally-has (e ∷ es) (suc j) h b = omega (arith, tally-has es j (omega arith) b, more-least (bearsBy top k e) (tally top k es))
-
-  tally-two : (es : List Hint) (i j : ℕ) → i < j → j < length es → Bears top k (getD es i noHint) → Bears top k (getD es j noHint) → 2 ≤ tally top k es
-  unfolding tally
-  tally-two es i zero l h a b = absurd (omega arith)
-  tally-two [] i (suc j) l h a b = absurd (omega arith)
-  tally-two (e ∷ es) zero (suc j) l h a b = rw (bears-true top k e a) (omega (arith, tally-has es j (omega arith) b))
-  tally-two (e ∷ es) (suc i) (suc j) l h a b = omega (arith, tally-two es i j (omega arith) (omega arith) a b, more-least (bearsBy top k e) (tally top k es))
-
-  -- what is placed again counts as before
-  tally-again : (b : Bool) (es : List Hint) (s₀ s : Fixed) (e : Edges) → tally top k (edgesOf (placedBy b es s₀ s e)) ≡ tally top k (edgesOf e)
-  unfolding tally again
-  tally-again true es s₀ s (One e) = refl
-  tally-again true es s₀ s (Two b t) = refl
-  tally-again false es s₀ s e = refl
-
-  -- an insertion adds no more than what is put in
-  tally-insert : (m : HintMap) (e : Edges) (initial : HintMap) (given : Bool) → Good m →
-      tally top k (view (insertIn m e initial given)) ≤ tally top k (view m) + tally top k (edgesOf e)
-  tally-insert m e initial given g =
-      by-outcome m e initial given (λ (n : HintMap). tally top k (view n) ≤ tally top k (view m) + tally top k (edgesOf e)) (omega arith) put
-    where
-      at : ℕ
-      at = placeFor m e
-
-      p : Edges
-      p = placedFor m e initial given
-
-      put : Clear m e initial given → tally top k (view (putEdges m at p)) ≤ tally top k (view m) + tally top k (edgesOf e)
-      put c =
-          let cut : tally top k (view m) ≡ tally top k (take at (view m)) + tally top k (drop at (view m)) = ap (tally top k) (sym (take-append-drop at (view m))) ∙ tally-append (take at (view m)) (drop at (view m)) in
-          let same : tally top k (edgesOf p) ≡ tally top k (edgesOf e) = tally-again (not (firstOf e .locked) && given) (view initial) (initial .scale) (m .scale) e in
-          rw (view-placed m e initial given (g .long) (c .entry), tally-append (take at (view m)) (edgesOf p ++ drop at (view m)), tally-append (edgesOf p) (drop at (view m))) (omega arith)
-
-  -- what one stem has is at most one edge of a side
-  tally-made : (e : Edges) → Made e → tally top k (edgesOf e) ≤ 1
-  unfolding tally Made
-  tally-made (One e) s = more-one (bearsBy top k e)
-  tally-made (Two b t) s = go top
-    where
-      go : (p : Bool) → moreBy (bearsBy p k b) (moreBy (bearsBy p k t) 0) ≤ 1
-      go true = rw (no-bears true k b (λ w. true≢false (sym (w .side) ∙ ap topK (s .bottom)))) (more-one (bearsBy true k t))
-      go false = rw (no-bears false k t (λ w. false≢true (sym (w .side) ∙ ap topK (s .top)))) (more-one (bearsBy false k b))
-
-  -- and none of another stem, nor of one of two edges that bear nothing
-  tally-chosen : (b t : Hint) → (Bears top k b → ⊥) → (Bears top k t → ⊥) → tally top k (edgesOf (chosen b t)) ≡ 0
-  unfolding tally chosen
-  tally-chosen b t p q = go (isValid b) (isValid t)
-    where
-      go : (x y : Bool) → tally top k (edgesOf (chosenBy x y b t)) ≡ 0
-      go false y = rw (no-bears top k t q)
-      go true false = rw (no-bears top k b p)
-      go true true = rw (no-bears top k b p, no-bears top k t q)
-
-  -- the adjustment leaves the count
-  tally-still : (n : ℕ) (es : List Hint) → tally top k (take n (map still es)) ≡ tally top k (take n es)
-  unfolding tally
-  tally-still zero es = refl
-  tally-still (suc n) [] = refl
-  tally-still (suc n) (e ∷ es) = ap (moreBy (bearsBy top k e)) (tally-still n es)
-
-  tally-adjust : (m : HintMap) → tally top k (view (adjustOf m)) ≡ tally top k (view m)
-  tally-adjust m =
-      let a = adjust-kept m in
-      let n = m .len in
-      rw (a .len) (sym (tally-still n (adjustOf m .edges)) ∙ ap (λ (es : List Hint). tally top k (take n es)) (a .edges) ∙ tally-still n (m .edges))
-
--- ---- through a build
--- a map in order, which has at most one edge of a side for each stem, and none for the stems of Q
-record Places (Q : ℕ → Type 0) (m : HintMap) : Type 0 where
-  order : Good m
-  most : (top : Bool) (k : ℕ) → tally top k (view m) ≤ 1
-  none : (top : Bool) (k : ℕ) → Q k → tally top k (view m) ≡ 0
-
-module _ (Q R : ℕ → Type 0) (m : HintMap) (has : Places Q m) where
-  -- for fewer stems
-  places-fewer : ((k : ℕ) → R k → Q k) → Places R m
-  places-fewer f = record { order = has .order; most = has .most; none = λ top k r. has .none top k (f k r) }
-
-  -- with the edges of a stem that has none yet
-  places-more : (i : ℕ) (b t : Hint) → b .index ≡ i → t .index ≡ i → Made (chosen b t) → Q i → (R i → ⊥) → ((k : ℕ) → (k ≡ i → ⊥) → R k → Q k) →
-      (initial : HintMap) (given : Bool) → Places R (insertIn m (chosen b t) initial given)
-  places-more i b t p q made new old keep initial given =
-      record {
-        order = insert-good m (chosen b t) initial given made (has .order);
-        most = λ top k. go top k (eqb k i) refl;
-        none = λ top k r.
-            let d : k ≡ i → ⊥ = λ w. old (rw w at r) in
-            omega (arith, add top k, other top k d, has .none top k (keep k d r));
-      }
-    where
-      add : (top : Bool) (k : ℕ) → tally top k (view (insertIn m (chosen b t) initial given)) ≤ tally top k (view m) + tally top k (edgesOf (chosen b t))
-      add top k = tally-insert top k m (chosen b t) initial given (has .order)
-
-      other : (top : Bool) (k : ℕ) → (k ≡ i → ⊥) → tally top k (edgesOf (chosen b t)) ≡ 0
-      other top k d = tally-chosen top k b t (λ w. d (sym (w .own .number) ∙ p)) (λ w. d (sym (w .own .number) ∙ q))
-
-      go : (top : Bool) (k : ℕ) (x : Bool) → eqb k i ≡ x → tally top k (view (insertIn m (chosen b t) initial given)) ≤ 1
-      go top k true e = omega (arith, add top k, tally-made top k (chosen b t) made, has .none top k (rw (eqb-true k i e) new))
-      go top k false e = omega (arith, add top k, other top k (eqb-false k i e), has .most top k)
-
--- the em box is of no stem
-boxed-none : (wanted : Bool) (initial : HintMap) (given : Bool) (s : Fixed) (top : Bool) (k : ℕ) → tally top k (view (emBoxed wanted initial given (newMap s))) ≡ 0
-unfolding tally emBoxed emBottom emTop chosen
-boxed-none true initial given s top k =
-    let low = chosen (emBottom s) noHint in
-    let high = chosen noHint (emTop s) in
-    let one = insertIn (newMap s) low initial given in
-    let a : tally top k (edgesOf low) ≡ 0 = refl in
-    let b : tally top k (edgesOf high) ≡ 0 = refl in
-    omega (arith, tally-insert top k (newMap s) low initial given (new-good s), tally-insert top k one high initial given (insert-good (newMap s) low initial given (made-box-bottom s) (new-good s)))
-boxed-none false initial given s top k = refl
-
--- in the first round no stem has edges that is still to come, or not handled
-abbrev Waits : ℕ → HintMask → ℕ → Type 0
-Waits i rest k = (i ≤ k) ⊎ (isActive rest k ≡ true)
-
-locked-places : (st : HintState) (initial : HintMap) (given : Bool) (i : ℕ) (x : StemHint) (p : Placed) → Places (Waits i (p .rest)) (p .map) →
-    let q = lockedTurn st initial given p i x in
-    Places (Waits (suc i) (q .rest)) (q .map)
-locked-places st initial given i x p has =
-    locked-cases initial p i x (λ (q : Placed). Places (Waits (suc i) (q .rest)) (q .map))
-    (places-fewer (Waits i (p .rest)) (Waits (suc i) (p .rest)) (p .map) has (λ k. ⊎-elim (λ h. inl (omega arith)) inr))
-    st given
-    (λ e. places-more (Waits i (p .rest)) (Waits (suc i) (cleared (p .rest) i)) (p .map) has i _ _
-    (sym (ready-like st x i .0 .index) ∙ setup-index x i (st .scale) true) (sym (ready-like st x i .1 .index) ∙ setup-index x i (st .scale) false)
-    (made-ready st x i) (inl (le-refl i))
-    (⊎-elim (λ h. omega arith) (λ a. true≢false (sym a ∙ clear-off (p .rest) i)))
-    (λ k d. ⊎-elim (λ h. inl (omega arith)) (λ a. inr (sym (clear-keeps (p .rest) i k (λ w. d (sym w))) ∙ a)))
-    initial given)
-
--- in the second none that is still to come and not handled
-abbrev Awaits : ℕ → HintMask → ℕ → Type 0
-Awaits i rest k = (i ≤ k) × (isActive rest k ≡ true)
-
-free-places : (s : Fixed) (initial : HintMap) (i : ℕ) (x : StemHint) (p : Placed) → Places (Awaits i (p .rest)) (p .map) →
-    let q = freeTurn s initial p i x in
-    Places (Awaits (suc i) (q .rest)) (q .map)
-free-places s initial i x p has =
-    free-cases initial p i x (λ (q : Placed). Places (Awaits (suc i) (q .rest)) (q .map))
-    (places-fewer (Awaits i (p .rest)) (Awaits (suc i) (p .rest)) (p .map) has (λ k h. (omega arith, h .1)))
-    s
-    (λ e. places-more (Awaits i (p .rest)) (Awaits (suc i) (p .rest)) (p .map) has i _ _
-    (setup-index x i s true) (setup-index x i s false) (made-setup x i s) (le-refl i, e) (λ h. omega arith) (λ k d h. (omega arith, h .1)) initial true)
+use Rattle.build.specs.Build.{builtOf}
+use Rattle.build.proofs.Saved.{stemAt, Keeps, saved-keeps, Uses, saved-used, heightOf, Bears, saved-heights}
+use Rattle.build.proofs.Once.{once, numbered}
 
 module _ (st : HintState) (mask : HintMask) (initial : HintMap) (ss : Stems) where
   abbrev built : Built
@@ -245,33 +24,6 @@ module _ (st : HintState) (mask : HintMask) (initial : HintMap) (ss : Stems) whe
 
   abbrev edges : List Hint
   edges = view (built .map)
-
-  boxed-places : (Q : ℕ → Type 0) → Places Q (boxedMap st initial true)
-  boxed-places Q =
-      let none = boxed-none (st .«do_em_box_hints») initial true (st .scale) in
-      record {
-        order = boxed-keeps Good in-order (st .«do_em_box_hints») initial true (newMap (st .scale)) (new-good (st .scale));
-        most = λ top k. omega (arith, none top k);
-        none = λ top k q. none top k;
-      }
-
-  -- a built map has at most one edge of a side for each stem
-  built-most : (top : Bool) (k : ℕ) → tally top k edges ≤ 1
-  unfolding builtOf
-  built-most top k =
-      let one = round-keeps (locked-round st initial true) (λ (i : ℕ) (q : Placed). Places (Waits i (q .rest)) (q .map)) (locked-places st initial true) 0 (declaredIn ss) _ (boxed-places _) .1 in
-      let p = lockedPlaced st mask initial ss in
-      let two = round-keeps (free-round (st .scale) initial) (λ (i : ℕ) (q : Placed). Places (Awaits i (q .rest)) (q .map)) (free-places (st .scale) initial) 0 (declaredIn ss) p (places-fewer _ _ _ one (λ k h. inr (h .1))) .1 in
-      rw (tally-adjust top k (placedOf st mask initial ss)) (two .most top k)
-
-  -- in a built map two edges of one stem that are both tops, or both not, are the same
-  pub once : (top : Bool) (k i j : ℕ) → i < length edges → j < length edges → Bears top k (getD edges i noHint) → Bears top k (getD edges j noHint) → i ≡ j
-  once top k i j h l a b = go (ltb i j) refl (ltb j i) refl
-    where
-      go : (x : Bool) → ltb i j ≡ x → (y : Bool) → ltb j i ≡ y → i ≡ j
-      go true e y f = absurd (omega (arith, ltb-true i j e, tally-two top k edges i j (ltb-true i j e) l a b, built-most top k))
-      go false e true f = absurd (omega (arith, ltb-true j i f, tally-two top k edges j i (ltb-true j i f) h b a, built-most top k))
-      go false e false f = omega (arith, ltb-false i j e, ltb-false j i f)
 
   -- a build changes no stem's ends, no count and no length
   pub built-keeps : Keeps ss (built .stems)
@@ -283,12 +35,13 @@ module _ (st : HintState) (mask : HintMask) (initial : HintMap) (ss : Stems) whe
   unfolding builtOf
   used-exactly k h = saved-used edges ss k h
 
-  -- each edge of the map that is a stem's has its device height saved there, as that of the top or of the bottom
-  pub heights-saved : (i : ℕ) → i < length edges → let e = getD edges i noHint in
-      e .synthetic ≡ false → e .index < length (ss .list) → heightOf (isTop e) (stemAt (built .stems) (e .index)) ≡ e .«ds_coord»
-  unfolding builtOf
-  heights-saved i h s l =
+  -- each edge of the map that is not synthetic has its device height saved in its stem, as that of the top or of the bottom
+  pub heights-saved : (i : ℕ) → i < length edges → getD edges i noHint .synthetic ≡ false →
       let e = getD edges i noHint in
-      let own : Bears (isTop e) (e .index) e = record { own = record { real = s; number = refl }; side = refl } in
-      saved-heights (isTop e) edges ss (e .index) i l
-      (record { there = h; bears = own; last = λ j f g b. lt-irrefl i (rw (sym (once (isTop e) (e .index) i j h g own b)) at f) })
+      heightOf (isTop e) (stemAt (built .stems) (e .index)) ≡ e .«ds_coord»
+  unfolding builtOf
+  heights-saved i h s =
+      let e = getD edges i noHint in
+      let bears : Bears (isTop e) (e .index) e = record { own = record { real = s; number = refl }; side = refl } in
+      saved-heights (isTop e) edges ss (e .index) i (omega (arith, numbered st mask initial ss i h s, length-take (ss .count) (ss .list)))
+      (record { there = h; bears = bears; last = λ j f g b. lt-irrefl i (rw (sym (once st mask initial ss (isTop e) (e .index) i j h g bears b)) at f) })

@@ -1,0 +1,101 @@
+// A map's edges and the heights that it maps, against a row.
+use crate::rows;
+use hintmap::HintMap;
+use stems::Hint;
+use stems::Kind;
+ghost use Prim.Native.Nat.{_+_, _≤_};
+
+// From `at` on: the count of edges, and seven numbers for each.
+pub fn edges_agree(map: HintMap, row: &[i32], at: usize) -> bool
+    requires { ⌜ at ≤ 1000 ⌝ }
+{
+    let count = rows::count(row, at, 20);
+    if map.len != count {
+        return false;
+    }
+    for i in 0..count {
+        let edge = map.edges[i];
+        if !edge_agrees(edge, row, at + 1 + 7 * i) {
+            return false;
+        }
+    }
+    true
+}
+
+// Where the row goes on after the edges.
+pub fn after_edges(row: &[i32], at: usize) -> usize
+    requires { ⌜ at ≤ 1000 ⌝ }
+    ensures { λ r. ⌜ r ≤ at + 141 ⌝ }
+{
+    at + 1 + 7 * rows::count(row, at, 20)
+}
+
+// From `at` on: the kind, 1 if the edge is locked, 1 if it is synthetic, its stem's number, height, device
+// height and scale.
+fn edge_agrees(edge: Hint, row: &[i32], at: usize) -> bool
+    requires { ⌜ at ≤ 2000 ⌝ }
+{
+    let kind = edge.kind;
+    if number_of(kind) != rows::number(row, at) {
+        return false;
+    }
+    if edge.locked != rows::flag(row, at + 1) {
+        return false;
+    }
+    if edge.synthetic != rows::flag(row, at + 2) {
+        return false;
+    }
+    if edge.index as i32 != rows::number(row, at + 3) {
+        return false;
+    }
+    line_agrees(edge, row, at + 4)
+}
+
+// From `at` on: height, device height and scale.
+fn line_agrees(edge: Hint, row: &[i32], at: usize) -> bool
+    requires { ⌜ at ≤ 3000 ⌝ }
+{
+    if edge.cs_coord.bits != rows::number(row, at) {
+        return false;
+    }
+    if edge.ds_coord.bits != rows::number(row, at + 1) {
+        return false;
+    }
+    edge.scale.bits == rows::number(row, at + 2)
+}
+
+fn number_of(kind: Kind) -> i32 {
+    match kind {
+        Kind::Absent => 0,
+        Kind::GhostBottom => 1,
+        Kind::GhostTop => 2,
+        Kind::PairBottom => 3,
+        Kind::PairTop => 4,
+    }
+}
+
+// From `at` to the end: a count of heights, and for each the height and where the map puts it.
+pub fn heights_agree(map: HintMap, row: &[i32], at: usize) -> bool
+    requires { ⌜ at ≤ 1000 ⌝ }
+{
+    let count = rows::count(row, at, 20);
+    if row.len() != at + 1 + 2 * count {
+        return false;
+    }
+    for i in 0..count {
+        if !height_agrees(map, row, at + 1 + 2 * i) {
+            return false;
+        }
+    }
+    true
+}
+
+fn height_agrees(map: HintMap, row: &[i32], at: usize) -> bool
+    requires { ⌜ at ≤ 2000 ⌝ }
+{
+    if 96 < map.len {
+        return false;
+    }
+    let device = map.transform(rows::fixed(row, at));
+    device.bits == rows::number(row, at + 1)
+}

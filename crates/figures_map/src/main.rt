@@ -1,0 +1,16 @@
+// Runs the figures of maps and of their building, and says of each table how many rows were run and how
+// many differ.
+mod builds;
+mod edges;
+mod map_rows;
+mod maps;
+mod report;
+mod room;
+mod rows;
+mod states;
+
+fn main() {
+    room::run();
+    maps::run();
+    builds::run();
+}
