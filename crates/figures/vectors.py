@@ -89,7 +89,7 @@ def with_divisors():
 def print_rows(name, rows, of="i32"):
     """Rows as one flat constant, a number a line."""
     numbers = [number for row in rows for number in row]
-    print(f"\n// {len(rows)} rows.\npub const {name}: [{of}; {len(numbers)}] = [")
+    print(f"\n// Rows: {len(rows)}.\npub const {name}: [{of}; {len(numbers)}] = [")
     print(*(f"    {number},\n" for number in numbers), sep="", end="")
     print("];")
 

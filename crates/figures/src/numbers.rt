@@ -2,7 +2,7 @@
 // that is not taken, and the expected bits. `python3 vectors.py > src/numbers.rt` makes this file.
 // It works the expected bits out in exact fractions; no other code of the project takes part.
 
-// 133 rows.
+// Rows: 133.
 pub const PRODUCTS: [i32; 532] = [
     -2147483648,
     -2147483648,
@@ -538,7 +538,7 @@ pub const PRODUCTS: [i32; 532] = [
     1148919276,
 ];
 
-// 133 rows.
+// Rows: 133.
 pub const QUOTIENTS: [i32; 532] = [
     -2147483648,
     -2147483648,
@@ -1074,7 +1074,7 @@ pub const QUOTIENTS: [i32; 532] = [
     20266,
 ];
 
-// 143 rows.
+// Rows: 143.
 pub const PRODUCT_QUOTIENTS: [i32; 572] = [
     -2147483648,
     -2147483648,
@@ -1650,7 +1650,7 @@ pub const PRODUCT_QUOTIENTS: [i32; 572] = [
     419431365,
 ];
 
-// 20 rows.
+// Rows: 20.
 pub const SUMS: [i32; 80] = [
     -2147483648,
     -2147483648,
@@ -1734,7 +1734,7 @@ pub const SUMS: [i32; 80] = [
     -1976717667,
 ];
 
-// 20 rows.
+// Rows: 20.
 pub const DIFFERENCES: [i32; 80] = [
     -2147483648,
     -2147483648,
@@ -1818,7 +1818,7 @@ pub const DIFFERENCES: [i32; 80] = [
     -484809087,
 ];
 
-// 20 rows.
+// Rows: 20.
 pub const MIDPOINTS: [i32; 80] = [
     -2147483648,
     -2147483648,
@@ -1902,7 +1902,7 @@ pub const MIDPOINTS: [i32; 80] = [
     -988358834,
 ];
 
-// 20 rows.
+// Rows: 20.
 pub const NEGATIONS: [i32; 80] = [
     -2147483648,
     0,
@@ -1986,7 +1986,7 @@ pub const NEGATIONS: [i32; 80] = [
     -2147483647,
 ];
 
-// 20 rows.
+// Rows: 20.
 pub const ABSOLUTE_VALUES: [i32; 80] = [
     -2147483648,
     0,
@@ -2070,7 +2070,7 @@ pub const ABSOLUTE_VALUES: [i32; 80] = [
     2147483647,
 ];
 
-// 20 rows.
+// Rows: 20.
 pub const DOUBLINGS: [i32; 80] = [
     -2147483648,
     0,
@@ -2154,7 +2154,7 @@ pub const DOUBLINGS: [i32; 80] = [
     -2,
 ];
 
-// 20 rows.
+// Rows: 20.
 pub const ROUNDS: [i32; 80] = [
     -2147483648,
     0,
@@ -2238,7 +2238,7 @@ pub const ROUNDS: [i32; 80] = [
     -2147483648,
 ];
 
-// 20 rows.
+// Rows: 20.
 pub const FRACTIONS: [i32; 80] = [
     -2147483648,
     0,
@@ -2322,7 +2322,7 @@ pub const FRACTIONS: [i32; 80] = [
     65535,
 ];
 
-// 20 rows.
+// Rows: 20.
 pub const HALVES: [i32; 80] = [
     -2147483648,
     0,
@@ -2406,7 +2406,7 @@ pub const HALVES: [i32; 80] = [
     1073741823,
 ];
 
-// 20 rows.
+// Rows: 20.
 pub const OUTPUTS: [i32; 80] = [
     -2147483648,
     0,
@@ -2490,7 +2490,7 @@ pub const OUTPUTS: [i32; 80] = [
     2147482624,
 ];
 
-// 12 rows.
+// Rows: 12.
 pub const LESS: [i32; 48] = [
     -2147483648,
     -2147483648,
@@ -2542,7 +2542,7 @@ pub const LESS: [i32; 48] = [
     1,
 ];
 
-// 12 rows.
+// Rows: 12.
 pub const AT_MOST: [i32; 48] = [
     -2147483648,
     -2147483648,
@@ -2594,7 +2594,7 @@ pub const AT_MOST: [i32; 48] = [
     1,
 ];
 
-// 12 rows.
+// Rows: 12.
 pub const SAME: [i32; 48] = [
     -2147483648,
     -2147483648,
@@ -2646,7 +2646,7 @@ pub const SAME: [i32; 48] = [
     0,
 ];
 
-// 12 rows.
+// Rows: 12.
 pub const MINIMA: [i32; 48] = [
     -2147483648,
     -2147483648,
@@ -2698,7 +2698,7 @@ pub const MINIMA: [i32; 48] = [
     -1,
 ];
 
-// 12 rows.
+// Rows: 12.
 pub const MAXIMA: [i32; 48] = [
     -2147483648,
     -2147483648,
@@ -2750,7 +2750,7 @@ pub const MAXIMA: [i32; 48] = [
     1,
 ];
 
-// 5 rows.
+// Rows: 5.
 pub const CONSTANTS: [i32; 20] = [
     0,
     0,

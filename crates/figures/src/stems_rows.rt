@@ -2,7 +2,7 @@
 // `python3 vectors_stems.py > src/stems_rows.rt` makes this file. It takes the expected values from
 // model.py, which is written from document 01; no other code of the project takes part.
 
-// 12 rows.
+// Rows: 12.
 pub const MASKS: [i32; 415] = [
     28,
     0,
@@ -421,7 +421,7 @@ pub const MASKS: [i32; 415] = [
     254,
 ];
 
-// 7 rows.
+// Rows: 7.
 pub const SAME_MASKS: [i32; 143] = [
     16,
     0,
@@ -568,7 +568,7 @@ pub const SAME_MASKS: [i32; 143] = [
     0,
 ];
 
-// 21 rows.
+// Rows: 21.
 pub const EDGES: [i32; 336] = [
     16,
     1048576,

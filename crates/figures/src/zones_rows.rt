@@ -2,7 +2,7 @@
 // `python3 vectors_zones.py > src/zones_rows.rt` makes this file. It takes the expected values from
 // model.py, which is written from document 01; no other code of the project takes part.
 
-// 16 rows.
+// Rows: 16.
 pub const LISTS: [i32; 548] = [
     15,
     2048,
@@ -554,7 +554,7 @@ pub const LISTS: [i32; 548] = [
     -33554432,
 ];
 
-// 8 rows.
+// Rows: 8.
 pub const FAMILIES: [i32; 297] = [
     24,
     1024,
@@ -855,7 +855,7 @@ pub const FAMILIES: [i32; 297] = [
     0,
 ];
 
-// 14 rows.
+// Rows: 14.
 pub const SCALES: [i32; 294] = [
     15,
     1,
@@ -1153,7 +1153,7 @@ pub const SCALES: [i32; 294] = [
     0,
 ];
 
-// 12 rows.
+// Rows: 12.
 pub const CAPTURES: [i32; 591] = [
     127,
     1024,

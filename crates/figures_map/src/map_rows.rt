@@ -2,7 +2,7 @@
 // `python3 vectors_map.py > src/map_rows.rt` makes this file. It takes the expected values from
 // model_map.py, which is written from document 01; no other code of the project takes part.
 
-// 6 rows.
+// Rows: 6.
 pub const MAPS: [i32; 573] = [
     84,
     65536,
@@ -579,7 +579,7 @@ pub const MAPS: [i32; 573] = [
     14322,
 ];
 
-// 1 rows.
+// Rows: 1.
 pub const STARRED: [i32; 47] = [
     47,
     2048,
@@ -630,7 +630,7 @@ pub const STARRED: [i32; 47] = [
     131072,
 ];
 
-// 3 rows.
+// Rows: 3.
 pub const BUILDS: [i32; 364] = [
     161,
     2100,
@@ -998,7 +998,7 @@ pub const BUILDS: [i32; 364] = [
     0,
 ];
 
-// 3 rows.
+// Rows: 3.
 pub const EM_BOXES: [i32; 252] = [
     120,
     2048,
@@ -1254,7 +1254,7 @@ pub const EM_BOXES: [i32; 252] = [
     0,
 ];
 
-// 7 rows.
+// Rows: 7.
 pub const BASELINES: [i32; 284] = [
     45,
     1024,
@@ -1542,7 +1542,7 @@ pub const BASELINES: [i32; 284] = [
     0,
 ];
 
-// 4 rows.
+// Rows: 4.
 pub const CROWDS: [i32; 297] = [
     62,
     4635,
@@ -1843,7 +1843,7 @@ pub const CROWDS: [i32; 297] = [
     98304,
 ];
 
-// 3 rows.
+// Rows: 3.
 pub const TOUCHES: [i32; 193] = [
     62,
     2048,
