@@ -1,4 +1,4 @@
--- Laws of the nearestFrom among a family's edges, and of zones changed one after the other. Assumes nothing.
+-- Laws of the search among a family's edges, and of zones changed one after the other. Assumes nothing.
 use mathlib.Core.Path.{_≡_, refl, ap}
 use mathlib.Core.Bool.{Bool, true, false}
 use mathlib.Core.List.{List, [], _∷_, _++_, map}
@@ -15,7 +15,7 @@ use Rattle.zones.specs.declared.blues.Zones.{Zones}
 use Rattle.zones.specs.declared.blues.Nearest.{Nearest}
 use Rattle.zones.specs.Zones.{none, noBlue, listOf, familyEdge, nearer, nearestFrom, endedBy}
 
--- the nearestFrom from pair i on
+-- the search from pair i on
 abbrev pub searchFrom : Bool → Blues → Fixed → Fixed → Nearest → ℕ → Fixed
 searchFrom bottom bs flat limit near i = nearestFrom flat limit near (map (familyEdge bottom) (drop i (listOf bs)))
 

@@ -93,7 +93,7 @@ unfoldable pub nearer : Fixed → Fixed → Nearest → Fixed → Nearest
 nearer flat limit n edge =
     nearerBy (lessF (distance flat edge) (n .diff) && lessF (distance flat edge) limit) n edge (distance flat edge)
 
--- the nearestFrom, which a distance of 0 ends
+-- the search along some edges, which a distance of 0 ends
 abbrev pub endedBy : Bool → Fixed → Fixed → Fixed
 endedBy true found more = found
 endedBy false found more = more
