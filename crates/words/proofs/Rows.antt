@@ -1,0 +1,94 @@
+-- Laws of a list of tests: the first that holds gives the answer. Assumes nothing.
+use mathlib.Core.Path.{_≡_, refl, sym, ap, _∙_}
+use mathlib.Core.Bool.{Bool, true, false}
+use mathlib.Core.List.{List, [], _∷_, _++_}
+use Prim.Native.Nat.{ℕ, zero, suc, _<_}
+use native.Mathlib.Omega.{arith}
+use lib.ListN.{length, drop}
+use Rattle.words.specs.declared.answer.Answer.{Answer}
+use Rattle.words.specs.declared.answer.Answer.the-variants.{Ok}
+use Rattle.words.specs.Answers.{numberOf, Row, row, pickAnswer, firstOf}
+
+-- the test at a place, and its refusal
+abbrev pub rowAt : List Row → ℕ → Row
+rowAt [] k = row false Ok
+rowAt (r ∷ rs) zero = r
+rowAt (r ∷ rs) (suc k) = rowAt rs k
+
+-- a test that holds, after those that do not, gives its refusal
+pub hit : (rs : List Row) (k : ℕ) → k < length rs → rowAt rs k .fault ≡ true → firstOf (drop k rs) ≡ rowAt rs k .said
+unfolding firstOf
+hit [] k h e = absurd (no h)
+  where
+    no : k < 0 → ⊥
+    no h = omega arith
+hit (r ∷ rs) zero h e = ap (λ (t : Bool). pickAnswer t (r .said) (firstOf rs)) e
+hit (r ∷ rs) (suc k) h e = hit rs k (omega arith) e
+
+-- one that does not leaves the answer to those after it
+pub skip : (rs : List Row) (k : ℕ) → rowAt rs k .fault ≡ false → firstOf (drop k rs) ≡ firstOf (drop (suc k) rs)
+unfolding firstOf
+skip [] zero e = refl
+skip [] (suc k) e = refl
+skip (r ∷ rs) zero e = ap (λ (t : Bool). pickAnswer t (r .said) (firstOf rs)) e
+skip (r ∷ rs) (suc k) e = skip rs k e
+
+-- no refusal is an Ok
+no-refusal : {a b : Answer} → 0 < numberOf a → a ≡ b → numberOf b ≡ 0 → ⊥
+no-refusal {a} {b} h e z =
+    let n : numberOf a ≡ numberOf b = ap numberOf e in
+    omega arith
+
+-- every test refuses
+pub Refusing : List Row → Type 0
+Refusing rs = (j : ℕ) → j < length rs → 0 < numberOf (rowAt rs j .said)
+
+rest-refusing : (r : Row) (rs : List Row) → Refusing (r ∷ rs) → Refusing rs
+unfolding Refusing
+rest-refusing r rs h = λ j l. h (suc j) (omega arith)
+
+-- where the answer is Ok, no test holds
+pub none-holds : (rs : List Row) → Refusing rs → firstOf rs ≡ Ok → (k : ℕ) → rowAt rs k .fault ≡ false
+unfolding firstOf Refusing
+none-holds [] h e k = refl
+none-holds (r ∷ rs) h e k = by (r .fault) refl (λ q i. none-holds rs (rest-refusing r rs h) q i) k
+  where
+    by : (b : Bool) → r .fault ≡ b → (firstOf rs ≡ Ok → (i : ℕ) → rowAt rs i .fault ≡ false) → (k : ℕ) → rowAt (r ∷ rs) k .fault ≡ false
+    by true f g k = absurd (no-refusal (h 0 (omega arith)) (sym (ap (λ (t : Bool). pickAnswer t (r .said) (firstOf rs)) f) ∙ e) refl)
+    by false f g zero = f
+    by false f g (suc k) = g (sym (ap (λ (t : Bool). pickAnswer t (r .said) (firstOf rs)) f) ∙ e) k
+
+-- the first test that holds, with its refusal
+pub record First (rs : List Row) (a : Answer) : Type 0 where
+  pub place : ℕ
+  pub there : place < length rs
+  pub holds : rowAt rs place .fault ≡ true
+  pub says : rowAt rs place .said ≡ a
+  pub before : (j : ℕ) → j < place → rowAt rs j .fault ≡ false
+
+-- a refusal is given only where its test is the first that holds
+pub first-given : (rs : List Row) (a : Answer) → 0 < numberOf a → firstOf rs ≡ a → First rs a
+unfolding firstOf
+first-given [] a h e = absurd (no-refusal h (sym e) refl)
+first-given (r ∷ rs) a h e = by (r .fault) refl (λ q. first-given rs a h q)
+  where
+    by : (b : Bool) → r .fault ≡ b → (firstOf rs ≡ a → First rs a) → First (r ∷ rs) a
+    by true f g = record { place = 0; there = omega arith; holds = f; says = sym (ap (λ (t : Bool). pickAnswer t (r .said) (firstOf rs)) f) ∙ e; before = λ j l. absurd (no j l) }
+      where
+        no : (j : ℕ) → j < 0 → ⊥
+        no j l = omega arith
+    by false f g =
+        let q = g (sym (ap (λ (t : Bool). pickAnswer t (r .said) (firstOf rs)) f) ∙ e) in
+        record { place = suc (q .place); there = omega (arith, q .there); holds = q .holds; says = q .says; before = λ j l. earlier q j l }
+      where
+        earlier : (q : First rs a) (j : ℕ) → j < suc (q .place) → rowAt (r ∷ rs) j .fault ≡ false
+        earlier q zero l = f
+        earlier q (suc j) l = q .before j (omega arith)
+
+-- and wherever it is
+pub first-gives : (rs : List Row) (a : Answer) → First rs a → firstOf rs ≡ a
+first-gives rs a p = reach rs (p .place) (p .there) (p .before) ∙ hit rs (p .place) (p .there) (p .holds) ∙ p .says
+  where
+    reach : (rs : List Row) (k : ℕ) → k < length rs → ((j : ℕ) → j < k → rowAt rs j .fault ≡ false) → firstOf rs ≡ firstOf (drop k rs)
+    reach rs zero l f = refl
+    reach rs (suc k) l f = reach rs k (omega arith) (λ j h. f j (omega arith)) ∙ skip rs k (f k (omega arith))

@@ -1,0 +1,38 @@
+-- Any two results that meet the contract of a public function are equal, over that contract as the toolchain reads it. Assumes nothing.
+use mathlib.Core.Path.{_≡_, sym, _∙_}
+use Prim.Native.Nat.{ℕ}
+use borrow.Fn.Kinds.{endedOf}
+use borrow.Fn.World.{ArgsD, ResD}
+use contract.Lifetimes.{Lfts}
+use denote.Triple.Clauses.{AtExit}
+use Rattle.words.specs.declared.answer.Answer.{Answer}
+use Rattle.words.proofs.answer.Answer.code.Reads as code-reads
+use Rattle.words.proofs.answer.Answer.place.Reads as place-reads
+use Rattle.words.proofs.read.natural as natural
+use Rattle.words.proofs.read.natural.Kinds as natural-kinds
+use Rattle.words.proofs.read.natural.Reads as natural-reads
+use Rattle.words.proofs.read.word as word
+use Rattle.words.proofs.read.word.Kinds as word-kinds
+use Rattle.words.proofs.read.word.Reads as word-reads
+use Rattle.words.proofs.read.number as number
+use Rattle.words.proofs.read.number.Kinds as number-kinds
+use Rattle.words.proofs.read.number.Reads as number-reads
+
+module _ (κs : Lfts 0) (a : Answer) (r r′ : ℕ) where
+  pub code-unique : code-reads.Post κs (a, tt) r (a, tt) → code-reads.Post κs (a, tt) r′ (a, tt) → r ≡ r′
+  code-unique p q = p ∙ sym q
+
+  pub place-unique : place-reads.Post κs (a, tt) r (a, tt) → place-reads.Post κs (a, tt) r′ (a, tt) → r ≡ r′
+  place-unique p q = p ∙ sym q
+
+module _ (κs : Lfts 1) (a : ArgsD natural.signature κs) (r r′ : ResD natural.signature κs) (x x′ : AtExit (endedOf 1 natural-kinds.ps natural-kinds.r) κs) where
+  pub natural-unique : natural-reads.Post κs a r x → natural-reads.Post κs a r′ x′ → r ≡ r′
+  natural-unique p q = p .0 ∙ sym (q .0)
+
+module _ (κs : Lfts 1) (a : ArgsD word.signature κs) (r r′ : ResD word.signature κs) (x x′ : AtExit (endedOf 1 word-kinds.ps word-kinds.r) κs) where
+  pub word-unique : word-reads.Post κs a r x → word-reads.Post κs a r′ x′ → r ≡ r′
+  word-unique p q = p ∙ sym q
+
+module _ (κs : Lfts 1) (a : ArgsD number.signature κs) (r r′ : ResD number.signature κs) (x x′ : AtExit (endedOf 1 number-kinds.ps number-kinds.r) κs) where
+  pub number-unique : number-reads.Post κs a r x → number-reads.Post κs a r′ x′ → r ≡ r′
+  number-unique p q = p ∙ sym q

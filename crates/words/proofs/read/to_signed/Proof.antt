@@ -1,0 +1,30 @@
+-- `to_signed` reads 32 bits as signed: below 2^31 they are themselves, and else the complement of their complement. Assumes nothing.
+use mathlib.Core.Path.{_≡_, refl, ap}
+use Prim.Native.Nat.{_-_}
+use native.Mathlib.Omega.{arith}
+use mir.Syntax.{w32}
+use mir.Val.{toZ}
+use borrow.Author.Needs.{needs}
+use Rattle.words.specs.Words.{signed}
+use Rattle.words.proofs.read.to_signed.Statement.{statement}
+use Rattle.words.proofs.read.to_signed.Tie as tie
+
+cast-result : tie.Need-cast-result
+cast-result c = search needs
+
+returns : tie.Need-returns
+unfolding signed
+returns c = refl
+
+cast-result-2 : tie.Need-cast-result-2
+cast-result-2 c = search needs
+
+returns-2 : tie.Need-returns-2
+unfolding signed
+returns-2 c =
+    let bits = c .before .args .bits in
+    let back : 4294967295 - (4294967295 - bits) ≡ bits = omega arith in
+    ap (toZ w32) back
+
+pub to-signed-spec : {M : Type 1} → statement M
+to-signed-spec = tie.close (tie.spec cast-result returns cast-result-2 returns-2)

@@ -1,0 +1,26 @@
+-- Words of a script (01, "The script"): four bytes, the least first.
+use mathlib.Core.List.{List}
+use Prim.Native.Nat.{ℕ, _+_, _*_}
+use lib.ListN.{getD}
+use lib.IntN.{ℤ}
+use mir.Syntax.{w32}
+use mir.Val.{toZ}
+use Rattle.fixed.specs.declared.Fixed.{Fixed}
+use Rattle.fixed.specs.Fixed.{fromBits}
+
+-- word i as a number from 0 to 2^32 − 1
+unfoldable pub rawAt : List ℕ → ℕ → ℕ
+rawAt s i =
+    getD s (4 * i) 0 + getD s (4 * i + 1) 0 * 256 + getD s (4 * i + 2) 0 * 65536 + getD s (4 * i + 3) 0 * 16777216
+
+-- 32 bits read as signed
+unfoldable pub signed : ℕ → ℤ
+signed n = toZ w32 n
+
+-- word i, signed
+abbrev pub wordAt : List ℕ → ℕ → ℤ
+wordAt s i = signed (rawAt s i)
+
+-- word i as a number in 16.16
+abbrev pub numberAt : List ℕ → ℕ → Fixed
+numberAt s i = fromBits (wordAt s i)

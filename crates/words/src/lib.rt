@@ -1,0 +1,8 @@
+// The words of a script (01, "The script"), and the answers that a script can get.
+mod answer;
+mod read;
+
+pub use answer::Answer;
+pub use read::natural;
+pub use read::number;
+pub use read::word;

@@ -1,0 +1,58 @@
+// Words of a script: four bytes each, the least first.
+use fixed::Fixed;
+ghost use mathlib.Core.Path.{_≡_};
+ghost use Prim.Native.Nat.{_+_, _*_, _≤_, _<_};
+ghost use lib.ListN.{length};
+ghost use Rattle.words.specs.Words.{rawAt, signed, wordAt, numberAt};
+
+fn wide(byte: u8) -> u32
+    ensures { λ r. ⌜ (r ≡ byte) × (r < 256) ⌝ }
+{
+    byte as u32
+}
+
+fn raw(script: &[u8], i: usize) -> u32
+    requires { ⌜ 4 * i + 4 ≤ length (now script) ⌝ }
+    ensures { λ r. ⌜ r ≡ rawAt (now (script .entry)) i ⌝ }
+{
+    let at = 4 * i;
+    let b0 = wide(script[at]);
+    let b1 = wide(script[at + 1]);
+    let b2 = wide(script[at + 2]);
+    let b3 = wide(script[at + 3]);
+    b0 + b1 * 256 + b2 * 65536 + b3 * 16777216
+}
+
+fn to_signed(bits: u32) -> i32
+    ensures { λ r. ⌜ r ≡ signed bits ⌝ }
+{
+    if bits < 0x8000_0000 {
+        return bits as i32;
+    }
+    !((!bits) as i32)
+}
+
+// A word as a natural, for counts, offsets and kinds.
+pub fn natural(script: &[u8], i: usize) -> usize
+    requires { ⌜ 4 * i + 4 ≤ length (now script) ⌝ }
+    ensures { λ r. ⌜ (r ≡ rawAt (now (script .entry)) i) × (r < 4294967296) ⌝ }
+{
+    raw(script, i) as usize
+}
+
+// A word as it is meant, signed.
+pub fn word(script: &[u8], i: usize) -> i32
+    requires { ⌜ 4 * i + 4 ≤ length (now script) ⌝ }
+    ensures { λ r. ⌜ r ≡ wordAt (now (script .entry)) i ⌝ }
+{
+    to_signed(raw(script, i))
+}
+
+// A word as a number in 16.16.
+pub fn number(script: &[u8], i: usize) -> Fixed
+    requires { ⌜ 4 * i + 4 ≤ length (now script) ⌝ }
+    ensures { λ r. ⌜ r ≡ numberAt (now (script .entry)) i ⌝ }
+{
+    let bits = word(script, i);
+    Fixed { bits }
+}
