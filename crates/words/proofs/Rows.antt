@@ -6,7 +6,7 @@ use Prim.Native.Nat.{ℕ, zero, suc, _<_}
 use native.Mathlib.Omega.{arith}
 use lib.ListN.{length, drop}
 use Rattle.words.specs.declared.answer.Answer.{Answer}
-use Rattle.words.specs.declared.answer.Answer.the-variants.{Ok}
+use Rattle.words.specs.declared.answer.Answer.the-variants.{Ok, BadScript, BadScale, BadBlues, BadCommand, BadMask, NoRoom}
 use Rattle.words.specs.Answers.{numberOf, Row, row, pickAnswer, firstOf}
 
 -- the test at a place, and its refusal
@@ -92,3 +92,39 @@ first-gives rs a p = reach rs (p .place) (p .there) (p .before) ∙ hit rs (p .p
     reach : (rs : List Row) (k : ℕ) → k < length rs → ((j : ℕ) → j < k → rowAt rs j .fault ≡ false) → firstOf rs ≡ firstOf (drop k rs)
     reach rs zero l f = refl
     reach rs (suc k) l f = reach rs k (omega arith) (λ j h. f j (omega arith)) ∙ skip rs k (f k (omega arith))
+
+-- tests in two lists: a refusal of the first list stands
+pub found : (rs qs : List Row) → 0 < numberOf (firstOf rs) → firstOf (rs ++ qs) ≡ firstOf rs
+unfolding firstOf
+found [] qs h = absurd (no h)
+  where
+    no : 0 < 0 → ⊥
+    no h = omega arith
+found (r ∷ rs) qs h = by (r .fault) h (λ l. found rs qs l)
+  where
+    by : (b : Bool) → 0 < numberOf (pickAnswer b (r .said) (firstOf rs)) → (0 < numberOf (firstOf rs) → firstOf (rs ++ qs) ≡ firstOf rs) → pickAnswer b (r .said) (firstOf (rs ++ qs)) ≡ pickAnswer b (r .said) (firstOf rs)
+    by true l g = refl
+    by false l g = g l
+
+-- and where it gives Ok, the second list gives the answer
+pub onward : (rs qs : List Row) → Refusing rs → firstOf rs ≡ Ok → firstOf (rs ++ qs) ≡ firstOf qs
+unfolding firstOf Refusing
+onward [] qs h e = refl
+onward (r ∷ rs) qs h e = by (r .fault) e (λ l. onward rs qs (rest-refusing r rs h) l)
+  where
+    by : (b : Bool) → pickAnswer b (r .said) (firstOf rs) ≡ Ok → (firstOf rs ≡ Ok → firstOf (rs ++ qs) ≡ firstOf qs) → pickAnswer b (r .said) (firstOf (rs ++ qs)) ≡ firstOf qs
+    by true l g = absurd (no-refusal (h 0 (omega arith)) l refl)
+    by false l g = g l
+
+never : (k : ℕ) → suc k ≡ 0 → ⊥
+never k e = omega arith
+
+-- an answer numbered 0 is Ok
+pub is-ok : (a : Answer) → numberOf a ≡ 0 → a ≡ Ok
+is-ok Ok e = refl
+is-ok (BadScript p) e = absurd (never 0 e)
+is-ok BadScale e = absurd (never 1 e)
+is-ok (BadBlues p) e = absurd (never 2 e)
+is-ok (BadCommand p) e = absurd (never 3 e)
+is-ok (BadMask p) e = absurd (never 4 e)
+is-ok (NoRoom p) e = absurd (never 5 e)

@@ -11,6 +11,9 @@ use Rattle.words.proofs.answer.Answer.place.Reads as place-reads
 use Rattle.words.proofs.read.natural as natural
 use Rattle.words.proofs.read.natural.Kinds as natural-kinds
 use Rattle.words.proofs.read.natural.Reads as natural-reads
+use Rattle.words.proofs.read.raw as raw
+use Rattle.words.proofs.read.raw.Kinds as raw-kinds
+use Rattle.words.proofs.read.raw.Reads as raw-reads
 use Rattle.words.proofs.read.word as word
 use Rattle.words.proofs.read.word.Kinds as word-kinds
 use Rattle.words.proofs.read.word.Reads as word-reads
@@ -28,6 +31,10 @@ module _ (κs : Lfts 0) (a : Answer) (r r′ : ℕ) where
 module _ (κs : Lfts 1) (a : ArgsD natural.signature κs) (r r′ : ResD natural.signature κs) (x x′ : AtExit (endedOf 1 natural-kinds.ps natural-kinds.r) κs) where
   pub natural-unique : natural-reads.Post κs a r x → natural-reads.Post κs a r′ x′ → r ≡ r′
   natural-unique p q = p .0 ∙ sym (q .0)
+
+module _ (κs : Lfts 1) (a : ArgsD raw.signature κs) (r r′ : ResD raw.signature κs) (x x′ : AtExit (endedOf 1 raw-kinds.ps raw-kinds.r) κs) where
+  pub raw-unique : raw-reads.Post κs a r x → raw-reads.Post κs a r′ x′ → r ≡ r′
+  raw-unique p q = p ∙ sym q
 
 module _ (κs : Lfts 1) (a : ArgsD word.signature κs) (r r′ : ResD word.signature κs) (x x′ : AtExit (endedOf 1 word-kinds.ps word-kinds.r) κs) where
   pub word-unique : word-reads.Post κs a r x → word-reads.Post κs a r′ x′ → r ≡ r′

@@ -5,4 +5,5 @@ mod read;
 pub use answer::Answer;
 pub use read::natural;
 pub use read::number;
+pub use read::raw;
 pub use read::word;

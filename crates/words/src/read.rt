@@ -11,7 +11,8 @@ fn wide(byte: u8) -> u32
     byte as u32
 }
 
-fn raw(script: &[u8], i: usize) -> u32
+// A word as a natural below 2^32.
+pub fn raw(script: &[u8], i: usize) -> u32
     requires { ⌜ 4 * i + 4 ≤ length (now script) ⌝ }
     ensures { λ r. ⌜ r ≡ rawAt (now (script .entry)) i ⌝ }
 {
@@ -32,7 +33,7 @@ fn to_signed(bits: u32) -> i32
     !((!bits) as i32)
 }
 
-// A word as a natural, for counts, offsets and kinds.
+// The same as an index, for counts, offsets and kinds.
 pub fn natural(script: &[u8], i: usize) -> usize
     requires { ⌜ 4 * i + 4 ≤ length (now script) ⌝ }
     ensures { λ r. ⌜ (r ≡ rawAt (now (script .entry)) i) × (r < 4294967296) ⌝ }

@@ -1,0 +1,117 @@
+// Reading one command.
+use drawing::Path;
+use fixed::Fixed;
+use pen::Point;
+use words::natural;
+use words::number;
+use words::raw;
+ghost use mathlib.Core.Path.{_≡_};
+ghost use Prim.Native.Nat.{_+_, _*_, _≤_, _<_};
+ghost use lib.ListN.{length};
+ghost use Rattle.commands.specs.Commands.{operandsOf, pointAt, commandOf, readAt};
+
+// A command that writes nothing: what it asks of the hints. A script with a bad one is refused before it is run.
+pub enum Marking {
+    Bad,
+    Stem(Fixed, Fixed),
+    Mask { start: u32, len: u32 },
+    Counter { start: u32, len: u32 },
+    Clear,
+    Close,
+}
+
+pub enum Command {
+    Mark(Marking),
+    Draw(Path),
+}
+
+// A command, and the word behind its operands.
+pub struct Read {
+    pub command: Command,
+    pub next: usize,
+}
+
+// How many operands a kind has; 0 for what is no kind.
+fn operands(kind: usize) -> usize
+    ensures { λ r. ⌜ (r ≡ operandsOf kind) × (r ≤ 6) ⌝ }
+{
+    match kind {
+        1 => 2,
+        2 => 2,
+        3 => 2,
+        5 => 2,
+        6 => 2,
+        7 => 6,
+        _ => 0,
+    }
+}
+
+fn point(part: &[u8], at: usize) -> Point
+    requires { ⌜ 4 * at + 8 ≤ length (now part) ⌝ }
+    ensures { λ r. ⌜ r ≡ pointAt (now (part .entry)) at ⌝ }
+{
+    let x = number(part, at);
+    let y = number(part, at + 1);
+    Point { x, y }
+}
+
+// The command of a kind at word `at` of the part, all of whose operands are there.
+fn command_of(part: &[u8], at: usize, kind: usize) -> Command
+    requires { ⌜ (4 * (at + 1 + operandsOf kind) ≤ length (now part)) × (at < 16384) ⌝ }
+    ensures { λ r. ⌜ r ≡ commandOf (now (part .entry)) at kind ⌝ }
+{
+    if kind == 1 {
+        let min = number(part, at + 1);
+        let max = number(part, at + 2);
+        return Command::Mark(Marking::Stem(min, max));
+    }
+    if kind == 2 {
+        let start = raw(part, at + 1);
+        let len = raw(part, at + 2);
+        return Command::Mark(Marking::Mask { start, len });
+    }
+    if kind == 3 {
+        let start = raw(part, at + 1);
+        let len = raw(part, at + 2);
+        return Command::Mark(Marking::Counter { start, len });
+    }
+    if kind == 4 {
+        return Command::Mark(Marking::Clear);
+    }
+    if kind == 5 {
+        let to = point(part, at + 1);
+        return Command::Draw(Path::Move(to));
+    }
+    if kind == 6 {
+        let to = point(part, at + 1);
+        return Command::Draw(Path::Line(to));
+    }
+    if kind == 7 {
+        let first = point(part, at + 1);
+        let second = point(part, at + 3);
+        let end = point(part, at + 5);
+        return Command::Draw(Path::Curve(first, second, end));
+    }
+    if kind == 8 {
+        return Command::Mark(Marking::Close);
+    }
+    if kind == 9 {
+        return Command::Draw(Path::Finish);
+    }
+    Command::Mark(Marking::Bad)
+}
+
+// The command at word `at` of the part, whose first `n` words are the command words.
+pub fn read_command(part: &[u8], n: usize, at: usize) -> Read
+    requires { ⌜ (4 * n ≤ length (now part)) × ((n ≤ 16384) × (at < n)) ⌝ }
+    ensures { λ r. ⌜ r ≡ readAt (now (part .entry)) n at ⌝ }
+{
+    let kind = natural(part, at);
+    let next = at + 1 + operands(kind);
+    if n < next {
+        let command = Command::Mark(Marking::Bad);
+        return Read { command, next };
+    }
+    let command = command_of(part, at, kind);
+    Read { command, next }
+}
