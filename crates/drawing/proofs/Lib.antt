@@ -1,4 +1,5 @@
 pub mod Kept
+pub mod Steps
 pub mod Outcome
 pub mod Unique
 pub mod Demand3

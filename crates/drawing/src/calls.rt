@@ -1,27 +1,23 @@
 // The calls on a drawing. One that writes records does all of its work or none.
 use crate::hints::Hints;
-use crate::hints::place;
+use crate::path::Answer;
+use crate::path::Drawn;
+use crate::path::Path;
+use crate::path::draw;
 use fixed::Fixed;
+use hintmap::HintMap;
 use pen::Pen;
 use pen::Point;
-use pen::Stroke;
-use pen::put;
 use stems::HintMask;
 use zones::HintState;
 ghost use mathlib.Core.Path.{_≡_};
-ghost use Prim.Native.Nat.{_≤_};
+ghost use mathlib.Core.Bool.{true};
 ghost use Rattle.drawing.specs.Hints.{Kept};
-ghost use Rattle.drawing.specs.Calls.{Called, Committed, nextOf, stem, hintMask, counterMask, clear, move, line, curve, close, finish};
+ghost use Rattle.drawing.specs.Calls.{Called, nextOf, callOf, hasPoint, settledBy, stem, hintMask, counterMask, clear, move, line, curve, close, finish};
 
 pub struct Drawing {
     pub hints: Hints,
     pub pen: Pen,
-}
-
-// How a call that writes records ended: with so many words, or with too little room.
-pub enum Answer {
-    Wrote(usize),
-    NoRoom,
 }
 
 pub struct After {
@@ -76,23 +72,35 @@ pub fn close(state: HintState, drawing: Drawing) -> Drawing
     drawing
 }
 
-// The stroke is written and its hints and pen are kept, if there is room; else nothing is changed.
-fn commit(before: Drawing, hints: Hints, stroke: Stroke, out: &mut [i32]) -> After
-    requires { ⌜ stroke .records .count ≤ 10 ⌝ }
-    ensures { λ r. ⌜ Committed before hints stroke (now (out .entry)) r (now (out .exit)) ⌝ }
+// A call that had no room leaves the drawing as it came, its hints too.
+fn settle(drawing: Drawing, hints: Hints, drawn: Drawn) -> After
+    ensures { λ r. ⌜ r ≡ settledBy (drawn .answer) drawing hints (drawn .pen) ⌝ }
 {
-    let records = stroke.records;
-    if put(out, records) {
-        let pen = stroke.pen;
-        return After {
-            drawing: Drawing { hints, pen },
-            answer: Answer::Wrote(records.count),
-        };
+    let answer = drawn.answer;
+    match answer {
+        Answer::Wrote(_) => {
+            let pen = drawn.pen;
+            After {
+                drawing: Drawing { hints, pen },
+                answer,
+            }
+        }
+        Answer::NoRoom => After { drawing, answer },
     }
-    After {
-        drawing: before,
-        answer: Answer::NoRoom,
-    }
+}
+
+// A call with a point has the current map built first.
+fn by_path(state: HintState, drawing: Drawing, path: Path, out: &mut [i32]) -> After
+    requires { ⌜ Kept state (drawing .hints) ⌝ }
+    requires { ⌜ hasPoint path ≡ true ⌝ }
+    ensures { λ r. ⌜ Called state drawing (callOf path) (now (out .entry)) r (now (out .exit)) ⌝ }
+{
+    let hints = drawing.hints;
+    let pen = drawing.pen;
+    let ready = hints.ready(state);
+    let map = ready.map;
+    let drawn = draw(map, state.scale, pen, path, out);
+    settle(drawing, ready, drawn)
 }
 
 // Ports `move_to`.
@@ -100,12 +108,7 @@ pub fn move_to(state: HintState, drawing: Drawing, at: Point, out: &mut [i32]) -
     requires { ⌜ Kept state (drawing .hints) ⌝ }
     ensures { λ r. ⌜ Called state drawing (move at) (now (out .entry)) r (now (out .exit)) ⌝ }
 {
-    let hints = drawing.hints;
-    let pen = drawing.pen;
-    let ready = hints.ready(state);
-    let map = ready.map;
-    let device = place(map, state.scale, at);
-    commit(drawing, ready, pen.move_to(at, device), out)
+    by_path(state, drawing, Path::Move(at), out)
 }
 
 // Ports `line_to`.
@@ -113,12 +116,7 @@ pub fn line_to(state: HintState, drawing: Drawing, at: Point, out: &mut [i32]) -
     requires { ⌜ Kept state (drawing .hints) ⌝ }
     ensures { λ r. ⌜ Called state drawing (line at) (now (out .entry)) r (now (out .exit)) ⌝ }
 {
-    let hints = drawing.hints;
-    let pen = drawing.pen;
-    let ready = hints.ready(state);
-    let map = ready.map;
-    let device = place(map, state.scale, at);
-    commit(drawing, ready, pen.line_to(at, device), out)
+    by_path(state, drawing, Path::Line(at), out)
 }
 
 // Ports `curve_to`.
@@ -133,24 +131,17 @@ pub fn curve_to(
     requires { ⌜ Kept state (drawing .hints) ⌝ }
     ensures { λ r. ⌜ Called state drawing (curve first second end) (now (out .entry)) r (now (out .exit)) ⌝ }
 {
-    let hints = drawing.hints;
-    let pen = drawing.pen;
-    let ready = hints.ready(state);
-    let map = ready.map;
-    let scale = state.scale;
-    let stroke = pen.curve_to(
-        place(map, scale, first),
-        place(map, scale, second),
-        place(map, scale, end),
-    );
-    commit(drawing, ready, stroke, out)
+    by_path(state, drawing, Path::Curve(first, second, end), out)
 }
 
-// Ports `finish`.
+// Ports `finish`. It has no point, so any map serves.
 pub fn finish(state: HintState, drawing: Drawing, out: &mut [i32]) -> After
     ensures { λ r. ⌜ Called state drawing finish (now (out .entry)) r (now (out .exit)) ⌝ }
 {
     let hints = drawing.hints;
     let pen = drawing.pen;
-    commit(drawing, hints, pen.finish(), out)
+    let scale = state.scale;
+    let map = HintMap::new(scale);
+    let drawn = draw(map, scale, pen, Path::Finish, out);
+    settle(drawing, hints, drawn)
 }

@@ -2,9 +2,9 @@
 mod calls;
 mod hints;
 mod opening;
+mod path;
 
 pub use calls::After;
-pub use calls::Answer;
 pub use calls::Drawing;
 pub use calls::clear_hints;
 pub use calls::close;
@@ -19,3 +19,7 @@ pub use hints::Hints;
 pub use opening::Opened;
 pub use opening::Opening;
 pub use opening::open;
+pub use path::Answer;
+pub use path::Drawn;
+pub use path::Path;
+pub use path::draw;

@@ -1,26 +1,29 @@
--- `finish` meets its contract, by those of its calls. Assumes nothing.
+-- `finish` meets its contract: what `draw` drew is that call, by whatever map. Assumes nothing.
 use mathlib.Core.Path.{refl}
+use native.Mathlib.Omega.{arith}
 use borrow.Author.Needs.{needs}
-use Rattle.pen.proofs.Words.{finish-short}
 use Rattle.drawing.specs.Calls.{finish}
-use Rattle.drawing.proofs.Outcome.{committed, as-short}
+use Rattle.drawing.proofs.Outcome.{drawn-called}
 use Rattle.drawing.proofs.calls.finish.Statement.{statement}
 use Rattle.drawing.proofs.calls.finish.Tie as tie
 
-finish-requires : tie.Need-finish-requires
-finish-requires c κs = search needs
+new-requires : tie.Need-new-requires
+new-requires c κs = search needs
 
-commit-requires : tie.Need-commit-requires
-commit-requires c κs = as-short (c .before .finish .ensures) (finish-short _)
+draw-requires : tie.Need-draw-requires
+draw-requires c κs = rw (c .before .new .ensures) (omega arith)
+
+settle-requires : tie.Need-settle-requires
+settle-requires c κs = search needs
 
 same-length : tie.Need-same-length
 same-length c = search needs
 
 returns : tie.Need-returns
 returns c =
-    let f = c .before .before .before in
-    let a = f .before .before .before .args in
-    committed (a .state) (a .drawing) finish refl (f .finish .ensures) (c .before .commit .ensures)
+    let w = c .before .before in
+    let a = w .before .before .before .before .before .before .args in
+    drawn-called (a .state) (a .drawing) finish refl refl (w .draw .ensures) (c .settle .ensures)
 
 pub finish-spec : {M : Type 1} → statement M
-finish-spec = tie.close (tie.spec finish-requires commit-requires same-length returns)
+finish-spec = tie.close (tie.spec new-requires draw-requires settle-requires same-length returns)

@@ -1,0 +1,35 @@
+-- `by_path` meets its contract: what `draw` drew by ready hints is the call of the path. Assumes nothing.
+use mathlib.Core.Path.{_∙_}
+use borrow.Author.Needs.{needs}
+use Rattle.drawing.proofs.Kept.{kept-ready}
+use Rattle.drawing.proofs.Outcome.{drawn-called, point-hints, point-stroke}
+use Rattle.drawing.proofs.calls.by_path.Statement.{statement}
+use Rattle.drawing.proofs.calls.by_path.Tie as tie
+
+ready-requires : tie.Need-ready-requires
+ready-requires c κs = search needs
+
+draw-requires : tie.Need-draw-requires
+draw-requires c κs =
+    let r = c .before .before in
+    let s = r .before .before .before in
+    rw (r .ready .ensures) (kept-ready _ _ (s .pre .0) .map)
+
+settle-requires : tie.Need-settle-requires
+settle-requires c κs = search needs
+
+same-length : tie.Need-same-length
+same-length c = search needs
+
+returns : tie.Need-returns
+returns c =
+    let w = c .before .before in
+    let r = w .before .before .before in
+    let s = r .before .before .before in
+    let a = s .args in
+    drawn-called (a .state) (a .drawing) _ (r .ready .ensures ∙ point-hints (a .state) (a .drawing) (a .path) (s .pre .1))
+    (point-stroke (a .state) (a .drawing) (a .path) (s .pre .1) (r .ready .ensures)) (w .draw .ensures) (c .settle .ensures)
+
+pub by-path-spec : {M : Type 1} → statement M
+by-path-spec =
+    tie.close (tie.spec ready-requires draw-requires settle-requires same-length returns)
