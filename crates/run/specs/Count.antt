@@ -1,0 +1,21 @@
+-- How many records there are in some words (01, "Path records"): 1 move x y; 2 line x y; 3 curve and six; 4 close; 5 finish.
+use mathlib.Core.Bool.{Bool, true, false, _||_}
+use mathlib.Core.List.{List, [], _∷_}
+use Prim.Native.Nat.{ℕ, zero, suc, _-_}
+use lib.IntN.{ℤ, pos}
+use lib.ListN.{length, drop}
+use lib.Signed.{eqZ}
+use Rattle.commands.specs.Commands.{pick}
+
+-- the words that a record takes, by its first word
+unfoldable pub sizeOf : ℤ → ℕ
+sizeOf k = pick (eqZ k (pos 1)) 3 (pick (eqZ k (pos 2)) 3 (pick (eqZ k (pos 3)) 7 1))
+
+-- the records in some words, of which there are at most f
+unfoldable pub recordsBy : ℕ → List ℤ → ℕ
+recordsBy zero ws = 0
+recordsBy (suc f) [] = 0
+recordsBy (suc f) (w ∷ ws) = suc (recordsBy f (drop (sizeOf w - 1) ws))
+
+unfoldable pub recordsIn : List ℤ → ℕ
+recordsIn ws = recordsBy (length ws) ws

@@ -1,0 +1,121 @@
+-- A run of commands over a new drawing (01, "The script"): the record words of each command, and those for which there is room.
+use mathlib.Core.Path.{_≡_}
+use mathlib.Core.Bool.{Bool, true, false, not}
+use mathlib.Core.List.{List, [], _∷_, _++_}
+use Prim.Native.Nat.{ℕ, _+_, _-_, _*_, _≤_}
+use lib.Dec.{leb}
+use lib.IntN.{ℤ}
+use lib.ListN.{length, take, drop}
+use Rattle.stems.specs.declared.mask.HintMask.{HintMask}
+use Rattle.stems.specs.Mask.{maskOf}
+use Rattle.zones.specs.declared.state.HintState.{HintState}
+use Rattle.pen.specs.declared.strokes.Point.{Point}
+use Rattle.pen.specs.Records.{written}
+use Rattle.drawing.specs.declared.path.Path.{Path}
+use Rattle.drawing.specs.declared.path.Path.the-variants.{Move, Line, Curve, Finish}
+use Rattle.drawing.specs.declared.calls.Drawing.{Drawing}
+use Rattle.drawing.specs.Calls.{Call, stem, hintMask, counterMask, clear, move, line, curve, close, finish, nextOf, wordsFor}
+use Rattle.drawing.specs.Open.{newDrawing}
+use Rattle.words.specs.declared.answer.Answer.{Answer}
+use Rattle.words.specs.declared.answer.Answer.the-variants.{Ok, NoRoom}
+use Rattle.words.specs.Answers.{firstOf}
+use Rattle.commands.specs.declared.reading.Marking.{Marking}
+use Rattle.commands.specs.declared.reading.Marking.the-variants.{Bad, Stem, Mask, Counter, Clear, Close}
+use Rattle.commands.specs.declared.reading.Command.{Command}
+use Rattle.commands.specs.declared.reading.Command.the-variants.{Mark, Draw}
+use Rattle.commands.specs.Commands.{Placed, commandsOf}
+use Rattle.commands.specs.Faults.{commandRows}
+use Rattle.run.specs.declared.running.Ran.{Ran}
+
+-- ---- what a command asks
+-- the mask of some of a script's bytes, whose mask bytes start at byte from
+abbrev pub maskAt : List ℕ → ℕ → ℕ → ℕ → HintMask
+maskAt s from start len = maskOf (take len (drop (from + start) s))
+
+-- a script with a bad command is never run
+abbrev pub markCall : List ℕ → ℕ → Marking → Call
+markCall s from Bad = close
+markCall s from (Stem min max) = stem min max
+markCall s from (Mask start len) = hintMask (maskAt s from start len)
+markCall s from (Counter start len) = counterMask (maskAt s from start len)
+markCall s from Clear = clear
+markCall s from Close = close
+
+abbrev pub pathCall : Path → Call
+pathCall (Move p) = move p
+pathCall (Line p) = line p
+pathCall (Curve p q r) = curve p q r
+pathCall Finish = finish
+
+abbrev pub callOf : List ℕ → ℕ → Command → Call
+callOf s from (Mark m) = markCall s from m
+callOf s from (Draw p) = pathCall p
+
+-- ---- the record words of each command
+pub record Step : Type 0 where
+  pub place : ℕ
+  pub words : List ℤ
+
+unfoldable pub stepsOf : HintState → List ℕ → ℕ → Drawing → List Placed → List Step
+stepsOf st s from d [] = []
+stepsOf st s from d (c ∷ cs) =
+    record { place = c .place; words = wordsFor st d (callOf s from (c .command)) } ∷ stepsOf st s from (nextOf st d (callOf s from (c .command))) cs
+
+-- ---- room
+-- the answer, and the words of the commands before the first that does not fit
+pub record Fitted : Type 0 where
+  pub said : Answer
+  pub words : List ℤ
+
+abbrev pub fitBy : Bool → Step → Fitted → Fitted
+fitBy true t rest = record { said = rest .said; words = t .words ++ rest .words }
+fitBy false t rest = record { said = NoRoom (t .place); words = [] }
+
+unfoldable pub fitted : ℕ → List Step → Fitted
+fitted room [] = record { said = Ok; words = [] }
+fitted room (t ∷ ts) = fitBy (leb (length (t .words)) room) t (fitted (room - length (t .words)) ts)
+
+-- ---- the run
+-- what a run answers, and the output that it leaves
+pub record Outcome : Type 0 where
+  pub ran : Ran
+  pub left : List ℤ
+
+abbrev pub outcomeOf : Fitted → List ℤ → Outcome
+outcomeOf f out = record { ran = record { answer = f .said; words = length (f .words) }; left = written (f .words) out }
+
+-- commands over a new drawing, into all of an output
+unfoldable pub ranOf : HintState → List ℕ → ℕ → List Placed → List ℤ → Outcome
+ranOf st s from cs out = outcomeOf (fitted (length out) (stepsOf st s from (newDrawing (st .scale)) cs)) out
+
+pub record Ended (o : Outcome) (r : Ran) (left : List ℤ) : Type 0 where
+  pub said : r ≡ o .ran
+  pub memory : left ≡ o .left
+
+-- ---- what a run of checked commands has
+-- the mask that a command names lies in the script
+abbrev pub Inside : List ℕ → ℕ → Marking → Type 0
+Inside s from Bad = ⊤
+Inside s from (Stem min max) = ⊤
+Inside s from (Mask start len) = from + start + len ≤ length s
+Inside s from (Counter start len) = from + start + len ≤ length s
+Inside s from Clear = ⊤
+Inside s from Close = ⊤
+
+-- zones that fit, words that are there, and commands without a fault
+pub record Runnable (st : HintState) (s part : List ℕ) (first n from : ℕ) : Type 0 where
+  pub zones : st .«zone_count» ≤ 12
+  pub there : 4 * n ≤ length part
+  pub short : n ≤ 16384
+  pub start : first ≤ 16384
+  pub bytes : ℕ
+  pub few : bytes ≤ 65536
+  pub inside : from + bytes ≤ length s
+  pub faultless : firstOf (commandRows bytes (commandsOf first part n)) ≡ Ok
+
+-- a call has points, and the map that carries them is not valid
+abbrev pub wantsMap : Path → Bool → Bool
+wantsMap (Move p) valid = not valid
+wantsMap (Line p) valid = not valid
+wantsMap (Curve p q r) valid = not valid
+wantsMap Finish valid = false

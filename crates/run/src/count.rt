@@ -1,0 +1,31 @@
+// How many records there are in some words.
+ghost use mathlib.Core.Path.{_≡_};
+ghost use Prim.Native.Nat.{_≤_};
+ghost use lib.ListN.{length, take};
+ghost use Rattle.run.specs.Count.{sizeOf, recordsIn};
+
+// The words that a record of a kind takes.
+fn size(kind: i32) -> usize
+    ensures { λ r. ⌜ (r ≡ sizeOf kind) × (r ≤ 7) ⌝ }
+{
+    match kind {
+        1 => 3,
+        2 => 3,
+        3 => 7,
+        _ => 1,
+    }
+}
+
+// The records in the first words of an output.
+pub fn count_records(out: &[i32], words: usize) -> usize
+    requires { ⌜ words ≤ length (now out) ⌝ }
+    ensures { λ r. ⌜ r ≡ recordsIn (take words (now (out .entry))) ⌝ }
+{
+    let mut count = 0;
+    let mut at = 0;
+    while at < words {
+        at = at + size(out[at]);
+        count = count + 1;
+    }
+    count
+}

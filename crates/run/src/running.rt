@@ -1,0 +1,87 @@
+// The run: commands first to last, each drawing call lent the output from the next free word on.
+use crate::marks::marked;
+use commands::Command;
+use commands::read_command;
+use drawing::Answer;
+use drawing::Hints;
+use drawing::Path;
+use drawing::draw;
+use pen::Pen;
+use zones::HintState;
+ghost use mathlib.Core.Path.{_≡_};
+ghost use Prim.Native.Nat.{_+_, _*_, _≤_};
+ghost use lib.ListN.{length};
+ghost use Rattle.commands.specs.Commands.{commandsOf};
+ghost use Rattle.run.specs.Run.{wantsMap, stepsOf, ranOf, Ended, Runnable};
+
+// How a run ended: the answer, and the record words that were written.
+pub struct Ran {
+    pub answer: words::Answer,
+    pub words: usize,
+}
+
+// Whether a call has points, which the current map carries, and that map is not valid yet.
+fn wants_map(path: Path, valid: bool) -> bool
+    ensures { λ r. ⌜ r ≡ wantsMap path valid ⌝ }
+{
+    if valid {
+        return false;
+    }
+    match path {
+        Path::Move(_) => true,
+        Path::Line(_) => true,
+        Path::Curve(_, _, _) => true,
+        Path::Finish => false,
+    }
+}
+
+// Runs the `n` command words of a part that starts at word `first` of the script, whose mask bytes start at byte `from`.
+pub fn run(
+    script: &[u8],
+    part: &[u8],
+    first: usize,
+    n: usize,
+    from: usize,
+    state: HintState,
+    out: &mut [i32],
+) -> Ran
+    requires { ⌜ Runnable state (now script) (now part) first n from ⌝ }
+    ensures { λ r. ⌜ Ended (ranOf state (now (script .entry)) from (commandsOf first (now (part .entry)) n) (now (out .entry))) r (now (out .exit)) ⌝ }
+{
+    let mut hints = Hints::new(state.scale);
+    let mut pen = Pen::new();
+    let mut next = 0;
+    let mut at = 0;
+    while at < n {
+        let read = read_command(part, n, at);
+        let command = read.command;
+        match command {
+            Command::Mark(marking) => {
+                hints = marked(state, hints, script, from, marking);
+                at = read.next;
+            }
+            Command::Draw(path) => {
+                let map = hints.map;
+                if wants_map(path, map.is_valid) {
+                    hints = hints.ready(state);
+                    continue;
+                }
+                let drawn = draw(map, state.scale, pen, path, &mut out[next..]);
+                let answer = drawn.answer;
+                let Answer::Wrote(count) = answer else {
+                    return Ran {
+                        answer: words::Answer::NoRoom(first + at),
+                        words: next,
+                    };
+                };
+                pen = drawn.pen;
+                next = next + count;
+                at = read.next;
+            }
+        }
+    }
+    Ran {
+        answer: words::Answer::Ok,
+        words: next,
+    }
+}
