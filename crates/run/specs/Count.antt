@@ -2,14 +2,19 @@
 use mathlib.Core.Bool.{Bool, true, false, _||_}
 use mathlib.Core.List.{List, [], _∷_}
 use Prim.Native.Nat.{ℕ, zero, suc, _-_}
-use lib.IntN.{ℤ, pos}
+use lib.Dec.{eqb}
+use lib.IntN.{ℤ, pos, negsuc}
 use lib.ListN.{length, drop}
-use lib.Signed.{eqZ}
-use Rattle.commands.specs.Commands.{pick}
+
+abbrev pub sizeBy : Bool → Bool → ℕ
+sizeBy true curve = 3
+sizeBy false true = 7
+sizeBy false false = 1
 
 -- the words that a record takes, by its first word
 unfoldable pub sizeOf : ℤ → ℕ
-sizeOf k = pick (eqZ k (pos 1)) 3 (pick (eqZ k (pos 2)) 3 (pick (eqZ k (pos 3)) 7 1))
+sizeOf (pos n) = sizeBy (eqb n 1 || eqb n 2) (eqb n 3)
+sizeOf (negsuc n) = 1
 
 -- the records in some words, of which there are at most f
 unfoldable pub recordsBy : ℕ → List ℤ → ℕ

@@ -1,2 +1,3 @@
 pub mod Count
+pub mod Room
 pub mod Run

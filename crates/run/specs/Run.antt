@@ -1,9 +1,8 @@
 -- A run of commands over a new drawing (01, "The script"): the record words of each command, and those for which there is room.
 use mathlib.Core.Path.{_≡_}
 use mathlib.Core.Bool.{Bool, true, false, not}
-use mathlib.Core.List.{List, [], _∷_, _++_}
-use Prim.Native.Nat.{ℕ, _+_, _-_, _*_, _≤_}
-use lib.Dec.{leb}
+use mathlib.Core.List.{List, [], _∷_}
+use Prim.Native.Nat.{ℕ, _+_, _*_, _≤_}
 use lib.IntN.{ℤ}
 use lib.ListN.{length, take, drop}
 use Rattle.stems.specs.declared.mask.HintMask.{HintMask}
@@ -16,8 +15,7 @@ use Rattle.drawing.specs.declared.path.Path.the-variants.{Move, Line, Curve, Fi
 use Rattle.drawing.specs.declared.calls.Drawing.{Drawing}
 use Rattle.drawing.specs.Calls.{Call, stem, hintMask, counterMask, clear, move, line, curve, close, finish, nextOf, wordsFor}
 use Rattle.drawing.specs.Open.{newDrawing}
-use Rattle.words.specs.declared.answer.Answer.{Answer}
-use Rattle.words.specs.declared.answer.Answer.the-variants.{Ok, NoRoom}
+use Rattle.words.specs.declared.answer.Answer.the-variants.{Ok}
 use Rattle.words.specs.Answers.{firstOf}
 use Rattle.commands.specs.declared.reading.Marking.{Marking}
 use Rattle.commands.specs.declared.reading.Marking.the-variants.{Bad, Stem, Mask, Counter, Clear, Close}
@@ -26,6 +24,7 @@ use Rattle.commands.specs.declared.reading.Command.the-variants.{Mark, Draw}
 use Rattle.commands.specs.Commands.{Placed, commandsOf}
 use Rattle.commands.specs.Faults.{commandRows}
 use Rattle.run.specs.declared.running.Ran.{Ran}
+use Rattle.run.specs.Room.{Step, Fitted, fitted}
 
 -- ---- what a command asks
 -- the mask of some of a script's bytes, whose mask bytes start at byte from
@@ -52,28 +51,10 @@ callOf s from (Mark m) = markCall s from m
 callOf s from (Draw p) = pathCall p
 
 -- ---- the record words of each command
-pub record Step : Type 0 where
-  pub place : ℕ
-  pub words : List ℤ
-
 unfoldable pub stepsOf : HintState → List ℕ → ℕ → Drawing → List Placed → List Step
 stepsOf st s from d [] = []
 stepsOf st s from d (c ∷ cs) =
     record { place = c .place; words = wordsFor st d (callOf s from (c .command)) } ∷ stepsOf st s from (nextOf st d (callOf s from (c .command))) cs
-
--- ---- room
--- the answer, and the words of the commands before the first that does not fit
-pub record Fitted : Type 0 where
-  pub said : Answer
-  pub words : List ℤ
-
-abbrev pub fitBy : Bool → Step → Fitted → Fitted
-fitBy true t rest = record { said = rest .said; words = t .words ++ rest .words }
-fitBy false t rest = record { said = NoRoom (t .place); words = [] }
-
-unfoldable pub fitted : ℕ → List Step → Fitted
-fitted room [] = record { said = Ok; words = [] }
-fitted room (t ∷ ts) = fitBy (leb (length (t .words)) room) t (fitted (room - length (t .words)) ts)
 
 -- ---- the run
 -- what a run answers, and the output that it leaves

@@ -8,12 +8,16 @@ ghost use Rattle.run.specs.Count.{sizeOf, recordsIn};
 fn size(kind: i32) -> usize
     ensures { λ r. ⌜ (r ≡ sizeOf kind) × (r ≤ 7) ⌝ }
 {
-    match kind {
-        1 => 3,
-        2 => 3,
-        3 => 7,
-        _ => 1,
+    if kind == 1 {
+        return 3;
     }
+    if kind == 2 {
+        return 3;
+    }
+    if kind == 3 {
+        return 7;
+    }
+    1
 }
 
 // The records in the first words of an output.

@@ -5,15 +5,11 @@ use mathlib.Core.List.{List, [], _∷_, _++_}
 use Prim.Native.Nat.{ℕ, zero, suc, _<_}
 use native.Mathlib.Omega.{arith}
 use lib.ListN.{length, drop}
+use lib.Dec.{eqb}
+use borrow.Author.Tests.{eqb-true, eqb-false, not-true, not-false}
 use Rattle.words.specs.declared.answer.Answer.{Answer}
 use Rattle.words.specs.declared.answer.Answer.the-variants.{Ok, BadScript, BadScale, BadBlues, BadCommand, BadMask, NoRoom}
-use Rattle.words.specs.Answers.{numberOf, Row, row, pickAnswer, firstOf}
-
--- the test at a place, and its refusal
-abbrev pub rowAt : List Row → ℕ → Row
-rowAt [] k = row false Ok
-rowAt (r ∷ rs) zero = r
-rowAt (r ∷ rs) (suc k) = rowAt rs k
+use Rattle.words.specs.Answers.{numberOf, refuses, Row, pickAnswer, firstOf, rowAt, First}
 
 -- a test that holds, after those that do not, gives its refusal
 pub hit : (rs : List Row) (k : ℕ) → k < length rs → rowAt rs k .fault ≡ true → firstOf (drop k rs) ≡ rowAt rs k .said
@@ -57,14 +53,6 @@ none-holds (r ∷ rs) h e k = by (r .fault) refl (λ q i. none-holds rs (rest-re
     by true f g k = absurd (no-refusal (h 0 (omega arith)) (sym (ap (λ (t : Bool). pickAnswer t (r .said) (firstOf rs)) f) ∙ e) refl)
     by false f g zero = f
     by false f g (suc k) = g (sym (ap (λ (t : Bool). pickAnswer t (r .said) (firstOf rs)) f) ∙ e) k
-
--- the first test that holds, with its refusal
-pub record First (rs : List Row) (a : Answer) : Type 0 where
-  pub place : ℕ
-  pub there : place < length rs
-  pub holds : rowAt rs place .fault ≡ true
-  pub says : rowAt rs place .said ≡ a
-  pub before : (j : ℕ) → j < place → rowAt rs j .fault ≡ false
 
 -- a refusal is given only where its test is the first that holds
 pub first-given : (rs : List Row) (a : Answer) → 0 < numberOf a → firstOf rs ≡ a → First rs a
@@ -128,3 +116,10 @@ is-ok (BadBlues p) e = absurd (never 2 e)
 is-ok (BadCommand p) e = absurd (never 3 e)
 is-ok (BadMask p) e = absurd (never 4 e)
 is-ok (NoRoom p) e = absurd (never 5 e)
+
+-- an answer that does not refuse is Ok, and one that does is numbered from 1
+pub not-refused : (a : Answer) → refuses a ≡ false → a ≡ Ok
+not-refused a e = is-ok a (eqb-true (numberOf a) 0 (not-false (eqb (numberOf a) 0) e))
+
+pub is-refused : (a : Answer) → refuses a ≡ true → 0 < numberOf a
+is-refused a e = omega (arith, eqb-false (numberOf a) 0 (not-true (eqb (numberOf a) 0) e))

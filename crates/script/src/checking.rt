@@ -1,0 +1,27 @@
+// All tests of a script, in 01's order.
+use commands::check_commands;
+use header::check_header;
+use header::check_params;
+use words::Answer;
+use words::natural;
+ghost use mathlib.Core.Path.{_≡_};
+ghost use Rattle.words.specs.Answers.{firstOf};
+ghost use Rattle.script.specs.Script.{checkRows};
+
+// The first fault of a script.
+pub(crate) fn check(script: &[u8]) -> Answer
+    ensures { λ r. ⌜ r ≡ firstOf (checkRows (now (script .entry))) ⌝ }
+{
+    let header = check_header(script);
+    if header.code() != 0 {
+        return header;
+    }
+    let params = check_params(script);
+    if params.code() != 0 {
+        return params;
+    }
+    let first = natural(script, 4);
+    let count = natural(script, 5);
+    let bytes = natural(script, 7);
+    check_commands(script, first, count, bytes)
+}

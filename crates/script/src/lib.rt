@@ -1,0 +1,5 @@
+// A whole script: checked, then run into a lent output (01, "The script").
+mod checking;
+mod whole;
+
+pub use whole::run_script;

@@ -1,0 +1,72 @@
+// Checking and running a script.
+use crate::checking::check;
+use header::read_params;
+use run::Ran;
+use run::count_records;
+use run::run;
+use words::Answer;
+use words::natural;
+use words::number;
+use zones::HintState;
+ghost use mathlib.Core.Path.{_≡_};
+ghost use Prim.Native.Nat.{_≤_, _<_};
+ghost use lib.IntN.{pos};
+ghost use lib.ListN.{length};
+ghost use Rattle.pen.specs.Records.{written};
+ghost use Rattle.words.specs.declared.answer.Answer.the-variants.{Ok};
+ghost use Rattle.words.specs.Answers.{firstOf};
+ghost use Rattle.run.specs.Run.{outcomeOf, Ended};
+ghost use Rattle.run.specs.Room.{fitted};
+ghost use Rattle.script.specs.Script.{checkRows, zonesOf, stepsIn, headerWords, scriptOf, Scripted};
+
+// The zones of a script that passes all tests, made once.
+fn zones_of(script: &[u8]) -> HintState
+    requires { ⌜ firstOf (checkRows (now script)) ≡ Ok ⌝ }
+    ensures { λ r. ⌜ r ≡ zonesOf (now (script .entry)) ⌝ }
+{
+    HintState::new(read_params(script), number(script, 1))
+}
+
+// The run of such a script, into the words behind the result's header.
+fn run_commands(script: &[u8], out: &mut [i32]) -> Ran
+    requires { ⌜ firstOf (checkRows (now script)) ≡ Ok ⌝ }
+    ensures { λ r. ⌜ Ended (outcomeOf (fitted (length (now (out .entry))) (stepsIn (now (script .entry)))) (now (out .entry))) r (now (out .exit)) ⌝ }
+{
+    let first = natural(script, 4);
+    let count = natural(script, 5);
+    let masks = natural(script, 6);
+    let at = 4 * first;
+    run(script, &script[at..], first, count, 4 * masks, zones_of(script), out)
+}
+
+// The first four words of a result.
+fn seal(out: &mut [i32], records: u32, words: u32)
+    requires { ⌜ (4 ≤ length (now out)) × ((records < 2147483648) × (words < 2147483648)) ⌝ }
+    ensures { λ r. ⌜ now (out .exit) ≡ written (headerWords records words) (now (out .entry)) ⌝ }
+{
+    out[0] = 1;
+    out[1] = records as i32;
+    out[2] = 4;
+    out[3] = words as i32;
+}
+
+// Runs a script into a lent output.
+pub fn run_script(script: &[u8], out: &mut [i32]) -> Answer
+    ensures { λ r. ⌜ Scripted (scriptOf (now (script .entry)) (now (out .entry))) r (now (out .exit)) ⌝ }
+{
+    let fault = check(script);
+    if fault.code() != 0 {
+        return fault;
+    }
+    if out.len() < 4 {
+        return Answer::NoRoom(natural(script, 4));
+    }
+    let ran = run_commands(script, &mut out[4..]);
+    let answer = ran.answer;
+    if answer.code() != 0 {
+        return answer;
+    }
+    let records = count_records(&out[4..], ran.words);
+    seal(out, records as u32, ran.words as u32);
+    Answer::Ok
+}
