@@ -60,45 +60,37 @@ fn command_of(part: &[u8], at: usize, kind: usize) -> Command
     requires { ⌜ (4 * (at + 1 + operandsOf kind) ≤ length (now part)) × (at < 16384) ⌝ }
     ensures { λ r. ⌜ r ≡ commandOf (now (part .entry)) at kind ⌝ }
 {
-    if kind == 1 {
-        let min = number(part, at + 1);
-        let max = number(part, at + 2);
-        return Command::Mark(Marking::Stem(min, max));
+    let first = at + 1;
+    let second = at + 2;
+    match kind {
+        1 => {
+            let min = number(part, first);
+            let max = number(part, second);
+            Command::Mark(Marking::Stem(min, max))
+        }
+        2 => {
+            let start = raw(part, first);
+            let len = raw(part, second);
+            Command::Mark(Marking::Mask { start, len })
+        }
+        3 => {
+            let start = raw(part, first);
+            let len = raw(part, second);
+            Command::Mark(Marking::Counter { start, len })
+        }
+        4 => Command::Mark(Marking::Clear),
+        5 => Command::Draw(Path::Move(point(part, first))),
+        6 => Command::Draw(Path::Line(point(part, first))),
+        7 => {
+            let c1 = point(part, first);
+            let c2 = point(part, at + 3);
+            let to = point(part, at + 5);
+            Command::Draw(Path::Curve(c1, c2, to))
+        }
+        8 => Command::Mark(Marking::Close),
+        9 => Command::Draw(Path::Finish),
+        _ => Command::Mark(Marking::Bad),
     }
-    if kind == 2 {
-        let start = raw(part, at + 1);
-        let len = raw(part, at + 2);
-        return Command::Mark(Marking::Mask { start, len });
-    }
-    if kind == 3 {
-        let start = raw(part, at + 1);
-        let len = raw(part, at + 2);
-        return Command::Mark(Marking::Counter { start, len });
-    }
-    if kind == 4 {
-        return Command::Mark(Marking::Clear);
-    }
-    if kind == 5 {
-        let to = point(part, at + 1);
-        return Command::Draw(Path::Move(to));
-    }
-    if kind == 6 {
-        let to = point(part, at + 1);
-        return Command::Draw(Path::Line(to));
-    }
-    if kind == 7 {
-        let first = point(part, at + 1);
-        let second = point(part, at + 3);
-        let end = point(part, at + 5);
-        return Command::Draw(Path::Curve(first, second, end));
-    }
-    if kind == 8 {
-        return Command::Mark(Marking::Close);
-    }
-    if kind == 9 {
-        return Command::Draw(Path::Finish);
-    }
-    Command::Mark(Marking::Bad)
 }
 
 // The command at word `at` of the part, whose first `n` words are the command words.

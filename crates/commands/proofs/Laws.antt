@@ -1,0 +1,142 @@
+-- Laws of the commands and of their faults. Assumes nothing.
+use mathlib.Core.Path.{_≡_, refl, sym, ap, _∙_}
+use mathlib.Core.Bool.{Bool, true, false, _||_}
+use mathlib.Core.List.{List, [], _∷_, _++_}
+use Prim.Native.Nat.{ℕ, zero, suc, _+_, _-_, _≤_, _<_}
+use native.Mathlib.Omega.{arith}
+use lib.ListN.{length, take, drop, length-drop}
+use lib.Seq.{take-all}
+use lib.Dec.{ltb, leb}
+use borrow.Author.Tests.{lt-ltb, le-ltb, lt-leb, ltb-true, ltb-false}
+use Rattle.words.specs.declared.answer.Answer.the-variants.{Ok, BadCommand, BadMask}
+use Rattle.words.specs.Answers.{numberOf, Row, pickAnswer, firstOf}
+use Rattle.words.proofs.Rows.{rowAt, found}
+use Rattle.commands.specs.declared.reading.Command.{Command}
+use Rattle.commands.specs.Commands.{pick, operandsOf, nextAt, readAt, Placed, commandsFrom, commandsOf}
+use Rattle.commands.specs.Faults.{maskPast, isBad, hasBadMask, faultRows, commandRows}
+
+-- for as many mask bytes as a script can hold the end alone decides
+pub past-is : (start len bytes : ℕ) → bytes ≤ 65536 → maskPast start len bytes ≡ ltb bytes (start + len)
+unfolding maskPast
+past-is start len bytes h = by (ltb bytes (start + len)) refl
+  where
+    any : (u v : Bool) → (u || (v || true)) ≡ true
+    any true v = refl
+    any false true = refl
+    any false false = refl
+    by : (t : Bool) → ltb bytes (start + len) ≡ t → (leb 2147483648 start || (leb 2147483648 len || t)) ≡ t
+    by true e = any (leb 2147483648 start) (leb 2147483648 len)
+    by false e =
+        let q : start + len ≤ bytes = ltb-false _ _ e in
+        let x : start < 2147483648 = omega arith in
+        let y : len < 2147483648 = omega arith in
+        rw (lt-leb 2147483648 start x, lt-leb 2147483648 len y)
+
+-- a mask that is not past its bytes ends among them
+pub mask-inside : (start len bytes : ℕ) → maskPast start len bytes ≡ false → start + len ≤ bytes
+unfolding maskPast
+mask-inside start len bytes e = ltb-false _ _ (last (leb 2147483648 start) (leb 2147483648 len) (ltb bytes (start + len)) e)
+  where
+    last : (u v w : Bool) → (u || (v || w)) ≡ false → w ≡ false
+    last true v w e = cc
+    last false true w e = cc
+    last false false w e = e
+
+-- the word behind a command
+pub next-is : (s : List ℕ) (n i : ℕ) → readAt s n i .next ≡ nextAt s i
+unfolding readAt
+next-is s n i = refl
+
+-- the commands from word i of n on, where word 0 is word b of the script
+module _ (b : ℕ) (s : List ℕ) (n : ℕ) where
+  pub none : (f i : ℕ) → n ≤ i → commandsFrom f b s n i ≡ []
+  unfolding commandsFrom
+  none zero i h = refl
+  none (suc f) i h = rw (le-ltb i n h)
+
+  -- where f commands reach n, more change nothing
+  enough : (f g i : ℕ) → n ≤ i + f → n ≤ i + g → commandsFrom f b s n i ≡ commandsFrom g b s n i
+  unfolding commandsFrom
+  enough zero g i h k = sym (none g i (omega arith))
+  enough (suc f) zero i h k = none (suc f) i (omega arith)
+  enough (suc f) (suc g) i h k =
+      ap (λ (l : List Placed). pick (ltb i n) (record { place = b + i; command = readAt s n i .command } ∷ l) [])
+      (enough f g (nextAt s i) (omega arith) (omega arith))
+
+  pub first : (i : ℕ) → i < n → commandsFrom (n - i) b s n i ≡ record { place = b + i; command = readAt s n i .command } ∷ commandsFrom (n - nextAt s i) b s n (nextAt s i)
+  unfolding commandsFrom
+  first i h =
+      let e : n - i ≡ suc (n - (i + 1)) = omega arith in
+      rw (e, lt-ltb i n h)
+      (ap (λ (l : List Placed). record { place = b + i; command = readAt s n i .command } ∷ l)
+      (enough (n - (i + 1)) (n - nextAt s i) (nextAt s i) (omega arith) (omega arith)))
+
+  pub from-start : commandsOf b s n ≡ commandsFrom (n - 0) b s n 0
+  unfolding commandsOf
+  from-start =
+      let e : n ≡ n - 0 = omega arith in
+      ap (λ (f : ℕ). commandsFrom f b s n 0) e
+
+  -- f words hold at most f commands
+  at-most-from : (f i : ℕ) → length (commandsFrom f b s n i) ≤ f
+  unfolding commandsFrom
+  at-most-from zero i = omega arith
+  at-most-from (suc f) i = by (ltb i n) (at-most-from f (nextAt s i))
+    where
+      by : (t : Bool) → length (commandsFrom f b s n (nextAt s i)) ≤ f → length (pick t (record { place = b + i; command = readAt s n i .command } ∷ commandsFrom f b s n (nextAt s i)) []) ≤ suc f
+      by true h = omega arith
+      by false h = omega arith
+
+  pub at-most : length (commandsOf b s n) ≤ n
+  unfolding commandsOf
+  at-most = at-most-from n 0
+
+  -- their tests
+  pub rows-first : (bytes i : ℕ) → i < n → commandRows bytes (commandsFrom (n - i) b s n i) ≡ faultRows bytes (b + i) (readAt s n i .command) ++ commandRows bytes (commandsFrom (n - nextAt s i) b s n (nextAt s i))
+  unfolding commandRows
+  rows-first bytes i h = ap (commandRows bytes) (first i h)
+
+  pub rows-none : (bytes i : ℕ) → n ≤ i → commandRows bytes (commandsFrom (n - i) b s n i) ≡ []
+  unfolding commandRows
+  rows-none bytes i h = ap (commandRows bytes) (none (n - i) i h)
+
+-- every test refuses
+pub rows-refusing : (bytes : ℕ) (cs : List Placed) (j : ℕ) → j < length (commandRows bytes cs) → 0 < numberOf (rowAt (commandRows bytes cs) j .said)
+unfolding commandRows
+rows-refusing bytes [] j h = absurd (no h)
+  where
+    no : j < 0 → ⊥
+    no h = omega arith
+rows-refusing bytes (c ∷ cs) zero h = omega arith
+rows-refusing bytes (c ∷ cs) (suc zero) h = omega arith
+rows-refusing bytes (c ∷ cs) (suc (suc j)) h = rows-refusing bytes cs j (omega arith)
+
+-- where the answer is Ok, a command is neither bad nor has a bad mask, and the tests behind it answer Ok
+passes : (bytes place : ℕ) (c : Command) (rs : List Row) → firstOf (faultRows bytes place c ++ rs) ≡ Ok → (isBad c ≡ false) × ((hasBadMask bytes c ≡ false) × (firstOf rs ≡ Ok))
+unfolding firstOf
+passes bytes place c rs e = by (isBad c) (hasBadMask bytes c) e
+  where
+    by : (u v : Bool) → pickAnswer u (BadCommand place) (pickAnswer v (BadMask place) (firstOf rs)) ≡ Ok → (u ≡ false) × ((v ≡ false) × (firstOf rs ≡ Ok))
+    by true v e = absurd (let z : _≡_ {A = ℕ} 4 0 = ap numberOf e in omega arith)
+    by false true e = absurd (let z : _≡_ {A = ℕ} 5 0 = ap numberOf e in omega arith)
+    by false false e = (refl, (refl, e))
+
+pub faultless : (bytes b : ℕ) (s : List ℕ) (n i : ℕ) → i < n → firstOf (commandRows bytes (commandsFrom (n - i) b s n i)) ≡ Ok → (isBad (readAt s n i .command) ≡ false) × ((hasBadMask bytes (readAt s n i .command) ≡ false) × (firstOf (commandRows bytes (commandsFrom (n - nextAt s i) b s n (nextAt s i))) ≡ Ok))
+faultless bytes b s n i h e = passes bytes (b + i) (readAt s n i .command) _ (sym (ap firstOf (rows-first b s n bytes i h)) ∙ e)
+
+-- a fault of a command is the answer, and with none the tests behind it give it
+pub stop : (bytes place : ℕ) (c : Command) (rs : List Row) → 0 < numberOf (firstOf (faultRows bytes place c)) → firstOf (faultRows bytes place c ++ rs) ≡ firstOf (faultRows bytes place c)
+stop bytes place c rs h = found (faultRows bytes place c) rs h
+
+pub go : (bytes place : ℕ) (c : Command) (rs : List Row) → numberOf (firstOf (faultRows bytes place c)) ≡ 0 → firstOf (faultRows bytes place c ++ rs) ≡ firstOf rs
+unfolding firstOf
+go bytes place c rs e = by (isBad c) (hasBadMask bytes c) e
+  where
+    by : (u v : Bool) → numberOf (pickAnswer u (BadCommand place) (pickAnswer v (BadMask place) Ok)) ≡ 0 → pickAnswer u (BadCommand place) (pickAnswer v (BadMask place) (firstOf rs)) ≡ firstOf rs
+    by true v e = absurd (omega arith)
+    by false true e = absurd (omega arith)
+    by false false e = refl
+
+-- the rest of a slice, from byte i on
+pub rest : (s : List ℕ) (i : ℕ) → take (length s - i) (drop i s) ≡ drop i s
+rest s i = take-all (length s - i) (drop i s) (simp length-drop (omega arith))
