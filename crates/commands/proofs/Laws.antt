@@ -8,10 +8,12 @@ use lib.ListN.{length, take, drop, length-drop}
 use lib.Seq.{take-all}
 use lib.Dec.{ltb, leb}
 use borrow.Author.Tests.{lt-ltb, le-ltb, lt-leb, ltb-true, ltb-false}
+use Rattle.words.specs.declared.answer.Answer.{Answer}
 use Rattle.words.specs.declared.answer.Answer.the-variants.{Ok, BadCommand, BadMask}
 use Rattle.words.specs.Answers.{numberOf, Row, pickAnswer, firstOf}
 use Rattle.words.proofs.Rows.{rowAt, found}
 use Rattle.commands.specs.declared.reading.Command.{Command}
+use Rattle.commands.specs.declared.reading.Read.{Read}
 use Rattle.commands.specs.Commands.{pick, operandsOf, nextAt, readAt, Placed, commandsFrom, commandsOf}
 use Rattle.commands.specs.Faults.{maskPast, isBad, hasBadMask, faultRows, commandRows}
 
@@ -121,21 +123,30 @@ passes bytes place c rs e = by (isBad c) (hasBadMask bytes c) e
     by false true e = absurd (let z : _≡_ {A = ℕ} 5 0 = ap numberOf e in omega arith)
     by false false e = (refl, (refl, e))
 
-pub faultless : (bytes b : ℕ) (s : List ℕ) (n i : ℕ) → i < n → firstOf (commandRows bytes (commandsFrom (n - i) b s n i)) ≡ Ok → (isBad (readAt s n i .command) ≡ false) × ((hasBadMask bytes (readAt s n i .command) ≡ false) × (firstOf (commandRows bytes (commandsFrom (n - nextAt s i) b s n (nextAt s i))) ≡ Ok))
-faultless bytes b s n i h e = passes bytes (b + i) (readAt s n i .command) _ (sym (ap firstOf (rows-first b s n bytes i h)) ∙ e)
-
--- a fault of a command is the answer, and with none the tests behind it give it
-pub stop : (bytes place : ℕ) (c : Command) (rs : List Row) → 0 < numberOf (firstOf (faultRows bytes place c)) → firstOf (faultRows bytes place c ++ rs) ≡ firstOf (faultRows bytes place c)
-stop bytes place c rs h = found (faultRows bytes place c) rs h
-
-pub go : (bytes place : ℕ) (c : Command) (rs : List Row) → numberOf (firstOf (faultRows bytes place c)) ≡ 0 → firstOf (faultRows bytes place c ++ rs) ≡ firstOf rs
+behind : (bytes place : ℕ) (c : Command) (rs : List Row) → numberOf (firstOf (faultRows bytes place c)) ≡ 0 → firstOf (faultRows bytes place c ++ rs) ≡ firstOf rs
 unfolding firstOf
-go bytes place c rs e = by (isBad c) (hasBadMask bytes c) e
+behind bytes place c rs e = by (isBad c) (hasBadMask bytes c) e
   where
     by : (u v : Bool) → numberOf (pickAnswer u (BadCommand place) (pickAnswer v (BadMask place) Ok)) ≡ 0 → pickAnswer u (BadCommand place) (pickAnswer v (BadMask place) (firstOf rs)) ≡ firstOf rs
     by true v e = absurd (omega arith)
     by false true e = absurd (omega arith)
     by false false e = refl
+
+pub faultless : (bytes b : ℕ) (s : List ℕ) (n i : ℕ) → i < n → firstOf (commandRows bytes (commandsFrom (n - i) b s n i)) ≡ Ok → (isBad (readAt s n i .command) ≡ false) × ((hasBadMask bytes (readAt s n i .command) ≡ false) × (firstOf (commandRows bytes (commandsFrom (n - nextAt s i) b s n (nextAt s i))) ≡ Ok))
+faultless bytes b s n i h e = passes bytes (b + i) (readAt s n i .command) _ (sym (ap firstOf (rows-first b s n bytes i h)) ∙ e)
+
+-- the first command's fault is the answer, and where it has none the commands behind it give it
+module _ (bytes b : ℕ) (s : List ℕ) (n i : ℕ) (r : Read) (f : Answer) (e : r ≡ readAt s n i) (g : f ≡ firstOf (faultRows bytes (b + i) (r .command))) (h : i < n) where
+  said : f ≡ firstOf (faultRows bytes (b + i) (readAt s n i .command))
+  said = g ∙ ap (λ (q : Read). firstOf (faultRows bytes (b + i) (q .command))) e
+
+  pub fault-here : 0 < numberOf f → f ≡ firstOf (commandRows bytes (commandsFrom (n - i) b s n i))
+  fault-here k = said ∙ sym (ap firstOf (rows-first b s n bytes i h) ∙ found _ _ (rw said at k))
+
+  pub fault-behind : numberOf f ≡ 0 → firstOf (commandRows bytes (commandsFrom (n - i) b s n i)) ≡ firstOf (commandRows bytes (commandsFrom (n - r .next) b s n (r .next)))
+  fault-behind k =
+      ap firstOf (rows-first b s n bytes i h) ∙ behind bytes (b + i) (readAt s n i .command) _ (ap numberOf (sym said) ∙ k) ∙
+      sym (ap (λ (q : Read). firstOf (commandRows bytes (commandsFrom (n - q .next) b s n (q .next)))) e ∙ ap (λ (j : ℕ). firstOf (commandRows bytes (commandsFrom (n - j) b s n j))) (next-is s n i))
 
 -- the rest of a slice, from byte i on
 pub rest : (s : List ℕ) (i : ℕ) → take (length s - i) (drop i s) ≡ drop i s
