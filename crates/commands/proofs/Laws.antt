@@ -10,8 +10,8 @@ use lib.Dec.{ltb, leb}
 use borrow.Author.Tests.{lt-ltb, le-ltb, lt-leb, ltb-true, ltb-false}
 use Rattle.words.specs.declared.answer.Answer.{Answer}
 use Rattle.words.specs.declared.answer.Answer.the-variants.{Ok, BadCommand, BadMask}
-use Rattle.words.specs.Answers.{numberOf, Row, pickAnswer, firstOf}
-use Rattle.words.proofs.Rows.{rowAt, found}
+use Rattle.words.specs.Answers.{numberOf, Row, pickAnswer, firstOf, rowAt}
+use Rattle.words.proofs.Rows.{found}
 use Rattle.commands.specs.declared.reading.Command.{Command}
 use Rattle.commands.specs.declared.reading.Read.{Read}
 use Rattle.commands.specs.Commands.{pick, operandsOf, nextAt, readAt, Placed, commandsFrom, commandsOf}

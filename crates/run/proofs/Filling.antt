@@ -47,6 +47,10 @@ begun all out =
       left = ap (λ (k : ℕ). written (fitted k all .words) out) (sym z);
     }
 
+-- the same of equal commands
+pub following : {all : List Step} {out₀ : List ℤ} {rest rest′ : List Step} {next : ℕ} {out : List ℤ} → rest ≡ rest′ → Along all out₀ rest next out → Along all out₀ rest′ next out
+following e a = rw e at a
+
 -- ws at the next free words
 abbrev pub placed : ℕ → List ℤ → List ℤ → List ℤ
 placed next ws out = take next out ++ written ws (drop next out)
@@ -89,7 +93,7 @@ module _ (next : ℕ) (ws out : List ℤ) (h : next ≤ length out) (f : length 
         ap (λ (l : List ℤ). front ++ written vs l) placed-drop)
 
 -- a list with nothing placed in it
-placed-none : (next : ℕ) (out : List ℤ) → placed next [] out ≡ out
+pub placed-none : (next : ℕ) (out : List ℤ) → placed next [] out ≡ out
 unfolding written
 placed-none next out = take-append-drop next out
 

@@ -1,6 +1,6 @@
 -- A run of commands over a new drawing (01, "The script"): the record words of each command, and those for which there is room.
 use mathlib.Core.Path.{_≡_}
-use mathlib.Core.Bool.{Bool, true, false, not}
+use mathlib.Core.Bool.{Bool, true, false}
 use mathlib.Core.List.{List, [], _∷_}
 use Prim.Native.Nat.{ℕ, _+_, _*_, _≤_}
 use lib.IntN.{ℤ}
@@ -8,12 +8,10 @@ use lib.ListN.{length, take, drop}
 use Rattle.stems.specs.declared.mask.HintMask.{HintMask}
 use Rattle.stems.specs.Mask.{maskOf}
 use Rattle.zones.specs.declared.state.HintState.{HintState}
-use Rattle.pen.specs.declared.strokes.Point.{Point}
 use Rattle.pen.specs.Records.{written}
 use Rattle.drawing.specs.declared.path.Path.{Path}
-use Rattle.drawing.specs.declared.path.Path.the-variants.{Move, Line, Curve, Finish}
 use Rattle.drawing.specs.declared.calls.Drawing.{Drawing}
-use Rattle.drawing.specs.Calls.{Call, stem, hintMask, counterMask, clear, move, line, curve, close, finish, nextOf, wordsFor}
+use Rattle.drawing.specs.Calls.{Call, stem, hintMask, counterMask, clear, close, callOf as pathCall, hasPoint, nextOf, wordsFor}
 use Rattle.drawing.specs.Open.{newDrawing}
 use Rattle.words.specs.declared.answer.Answer.the-variants.{Ok}
 use Rattle.words.specs.Answers.{firstOf}
@@ -39,12 +37,6 @@ markCall s from (Mask start len) = hintMask (maskAt s from start len)
 markCall s from (Counter start len) = counterMask (maskAt s from start len)
 markCall s from Clear = clear
 markCall s from Close = close
-
-abbrev pub pathCall : Path → Call
-pathCall (Move p) = move p
-pathCall (Line p) = line p
-pathCall (Curve p q r) = curve p q r
-pathCall Finish = finish
 
 abbrev pub callOf : List ℕ → ℕ → Command → Call
 callOf s from (Mark m) = markCall s from m
@@ -74,14 +66,14 @@ pub record Ended (o : Outcome) (r : Ran) (left : List ℤ) : Type 0 where
   pub memory : left ≡ o .left
 
 -- ---- what a run of checked commands has
--- the mask that a command names lies in the script
-abbrev pub Inside : List ℕ → ℕ → Marking → Type 0
-Inside s from Bad = ⊤
-Inside s from (Stem min max) = ⊤
-Inside s from (Mask start len) = from + start + len ≤ length s
-Inside s from (Counter start len) = from + start + len ≤ length s
-Inside s from Clear = ⊤
-Inside s from Close = ⊤
+-- where the mask that a command names ends, in the mask bytes
+abbrev pub maskEnd : Marking → ℕ
+maskEnd Bad = 0
+maskEnd (Stem min max) = 0
+maskEnd (Mask start len) = start + len
+maskEnd (Counter start len) = start + len
+maskEnd Clear = 0
+maskEnd Close = 0
 
 -- zones that fit, words that are there, and commands without a fault
 pub record Runnable (st : HintState) (s part : List ℕ) (first n from : ℕ) : Type 0 where
@@ -95,8 +87,6 @@ pub record Runnable (st : HintState) (s part : List ℕ) (first n from : ℕ) : 
   pub faultless : firstOf (commandRows bytes (commandsOf first part n)) ≡ Ok
 
 -- a call has points, and the map that carries them is not valid
-abbrev pub wantsMap : Path → Bool → Bool
-wantsMap (Move p) valid = not valid
-wantsMap (Line p) valid = not valid
-wantsMap (Curve p q r) valid = not valid
-wantsMap Finish valid = false
+abbrev pub wantsMap : Bool → Path → Bool
+wantsMap true p = false
+wantsMap false p = hasPoint p

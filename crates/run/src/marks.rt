@@ -8,7 +8,7 @@ ghost use Prim.Native.Nat.{_+_, _≤_};
 ghost use lib.ListN.{length, take, drop};
 ghost use Rattle.drawing.specs.Hints.{Kept};
 ghost use Rattle.drawing.specs.Calls.{hintsOf};
-ghost use Rattle.run.specs.Run.{maskAt, Inside, markCall};
+ghost use Rattle.run.specs.Run.{maskAt, maskEnd, markCall};
 
 // The very bytes of the script that a mask command names.
 pub fn mask_part(script: &[u8], from: usize, len: usize) -> &[u8]
@@ -29,7 +29,7 @@ fn mask_at(script: &[u8], from: usize, start: u32, len: u32) -> HintMask
 
 // What such a command makes of the hints.
 pub(crate) fn marked(state: HintState, hints: Hints, script: &[u8], from: usize, marking: Marking) -> Hints
-    requires { ⌜ Kept state hints × Inside (now script) from marking ⌝ }
+    requires { ⌜ Kept state hints × (from + maskEnd marking ≤ length (now script)) ⌝ }
     ensures { λ r. ⌜ r ≡ hintsOf state hints (markCall (now (script .entry)) from marking) ⌝ }
 {
     match marking {

@@ -22,7 +22,7 @@ pub struct Ran {
 
 // Whether a call has points, which the current map carries, and that map is not valid yet.
 fn wants_map(path: Path, valid: bool) -> bool
-    ensures { λ r. ⌜ r ≡ wantsMap path valid ⌝ }
+    ensures { λ r. ⌜ r ≡ wantsMap valid path ⌝ }
 {
     if valid {
         return false;

@@ -36,16 +36,15 @@ no-refusal {a} {b} h e z =
     omega arith
 
 -- every test refuses
-pub Refusing : List Row → Type 0
+abbrev pub Refusing : List Row → Type 0
 Refusing rs = (j : ℕ) → j < length rs → 0 < numberOf (rowAt rs j .said)
 
 rest-refusing : (r : Row) (rs : List Row) → Refusing (r ∷ rs) → Refusing rs
-unfolding Refusing
 rest-refusing r rs h = λ j l. h (suc j) (omega arith)
 
 -- where the answer is Ok, no test holds
 pub none-holds : (rs : List Row) → Refusing rs → firstOf rs ≡ Ok → (k : ℕ) → rowAt rs k .fault ≡ false
-unfolding firstOf Refusing
+unfolding firstOf
 none-holds [] h e k = refl
 none-holds (r ∷ rs) h e k = by (r .fault) refl (λ q i. none-holds rs (rest-refusing r rs h) q i) k
   where
@@ -96,7 +95,7 @@ found (r ∷ rs) qs h = by (r .fault) h (λ l. found rs qs l)
 
 -- and where it gives Ok, the second list gives the answer
 pub onward : (rs qs : List Row) → Refusing rs → firstOf rs ≡ Ok → firstOf (rs ++ qs) ≡ firstOf qs
-unfolding firstOf Refusing
+unfolding firstOf
 onward [] qs h e = refl
 onward (r ∷ rs) qs h e = by (r .fault) e (λ l. onward rs qs (rest-refusing r rs h) l)
   where
