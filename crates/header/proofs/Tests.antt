@@ -1,15 +1,20 @@
 -- The way through a list of tests, and tests from facts on numbers and back. `omega tests` proves a test true or false. Assumes nothing.
 use mathlib.Core.Path.{_≡_, refl, sym, ap, _∙_}
-use mathlib.Core.Bool.{Bool, true, false, not, _||_, true≢false}
+use mathlib.Core.Bool.{Bool, true, false, not, _&&_, _||_, true≢false}
 use mathlib.Core.List.{List, [], _∷_}
 use Prim.Native.Nat.{ℕ, zero, suc, _%_, _^_, _≤_, _<_}
 use native.Mathlib.Omega.{arith}
 use lib.Dec.{eqb, ltb}
 use lib.ListN.{length, drop}
-use borrow.Author.Tests.{lt-ltb, le-ltb, lt-leb, eq-eqb, ne-eqb, ltb-false}
-use Rattle.words.specs.Answers.{Row, firstOf}
+use borrow.Author.Tests.{lt-ltb, le-ltb, lt-leb, eq-eqb, ne-eqb, ltb-true, ltb-false, eqb-true, not-false}
+use Rattle.words.specs.declared.answer.Answer.the-variants.{Ok}
+use Rattle.words.specs.Answers.{numberOf, Row, firstOf}
 use Rattle.words.proofs.Rows.{rowAt, hit, skip}
 use Rattle.header.specs.Header.{differs, negative, outside, lengthBad}
+
+both-true : (a b : Bool) → (a && b) ≡ true → (a ≡ true) × (b ≡ true)
+both-true true b e = (refl, e)
+both-true false b e = absurd (true≢false (sym e))
 
 -- the first k tests do not hold
 pub record Past (rs : List Row) (k : ℕ) : Type 0 where
@@ -27,6 +32,31 @@ within (r ∷ rs) (suc k) e = omega (arith, within rs k e)
 pub stop : {rs : List Row} (k : ℕ) → Past rs k → rowAt rs k .fault ≡ true → rowAt rs k .said ≡ firstOf rs
 stop {rs} k p e = sym (p .rest ∙ hit rs k (within rs k e) e)
 
+-- ---- where the answer is Ok, no test holds
+abbrev pub refuses : List Row → Bool
+refuses [] = true
+refuses (r ∷ rs) = ltb 0 (numberOf (r .said)) && refuses rs
+
+pub refusing : (rs : List Row) → refuses rs ≡ true → (k : ℕ) → k < length rs → 0 < numberOf (rowAt rs k .said)
+refusing [] h k l = absurd (omega arith)
+refusing (r ∷ rs) h zero l = ltb-true 0 (numberOf (r .said)) (both-true (ltb 0 (numberOf (r .said))) (refuses rs) h .0)
+refusing (r ∷ rs) h (suc k) l = refusing rs (both-true (ltb 0 (numberOf (r .said))) (refuses rs) h .1) k (omega arith)
+
+module _ (rs : List Row) (h : refuses rs ≡ true) (e : firstOf rs ≡ Ok) where
+  clear : (k : ℕ) → k < length rs → Past rs k → rowAt rs k .fault ≡ false
+  clear k l p = go (rowAt rs k .fault) refl
+    where
+      go : (b : Bool) → rowAt rs k .fault ≡ b → b ≡ false
+      go true f = absurd (omega (arith, refusing rs h k l, ap numberOf (stop k p f ∙ e)))
+      go false f = refl
+
+  reached : (k : ℕ) → k ≤ length rs → Past rs k
+  reached zero l = record { rest = refl }
+  reached (suc k) l = pass k (reached k (omega arith)) (clear k (omega arith) (reached k (omega arith)))
+
+  pub none : (k : ℕ) → k < length rs → rowAt rs k .fault ≡ false
+  none k l = clear k l (reached k (omega arith))
+
 -- ---- either of two tests
 second : (a b : Bool) → b ≡ true → (a || b) ≡ true
 second true b e = refl
@@ -34,6 +64,9 @@ second false b e = e
 
 neither : (a b : Bool) → a ≡ false → b ≡ false → (a || b) ≡ false
 neither a b e f = rw (e, f)
+
+pub alike : (a b : ℕ) → differs a b ≡ false → a ≡ b
+alike a b e = eqb-true a b (not-false (eqb a b) e)
 
 pub both-false : (a b : Bool) → (a || b) ≡ false → (a ≡ false) × (b ≡ false)
 both-false true b e = absurd (true≢false e)
