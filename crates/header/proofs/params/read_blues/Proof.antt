@@ -33,7 +33,7 @@ unfolding bluesAt
 blues-more s at n h =
     let left : 7 - n ≡ suc (7 - (n + 1)) = omega arith in
     let stored : set (pairsFrom s at n ++ replicate (7 - n) noPair) n (pairAt s (at + 2 * n)) ≡ pairsFrom s at (n + 1) ++ replicate (7 - (n + 1)) noPair =
-        rw left (set-at (pairsFrom s at n) noPair _ (pairAt s (at + 2 * n)) n (pairs-length s at n) ∙ sym (rw (add-one n, pairs-more s at n, append-assoc))) in
+    rw left (set-at (pairsFrom s at n) noPair _ (pairAt s (at + 2 * n)) n (pairs-length s at n) ∙ sym (rw (add-one n, pairs-more s at n, append-assoc))) in
     ap (λ (l : List Blue). record { pairs = l; count = n + 1 }) stored
 
 abbrev Inv-loop : tie.InvT-loop

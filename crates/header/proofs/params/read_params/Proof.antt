@@ -77,20 +77,21 @@ unfolding paramsOf
 returns c =
     let w = c .before .before .before .before in
     let n = w .before .before .before .before in
-    rw
-    (c .read-blues4 .ensures,
-    c .before .read-blues3 .ensures,
-    c .before .before .read-blues2 .ensures,
-    c .before .before .before .read-blues .ensures,
-    toZ-ofZ (fits w),
-    w .word .ensures,
-    w .before .number3 .ensures,
-    w .before .before .number2 .ensures,
-    w .before .before .before .number .ensures,
-    n .natural4 .ensures .0,
-    n .before .natural3 .ensures .0,
-    n .before .before .natural2 .ensures .0,
-    n .before .before .before .natural .ensures .0)
+    rw (
+      c .read-blues4 .ensures,
+      c .before .read-blues3 .ensures,
+      c .before .before .read-blues2 .ensures,
+      c .before .before .before .read-blues .ensures,
+      toZ-ofZ (fits w),
+      w .word .ensures,
+      w .before .number3 .ensures,
+      w .before .before .number2 .ensures,
+      w .before .before .before .number .ensures,
+      n .natural4 .ensures .0,
+      n .before .natural3 .ensures .0,
+      n .before .before .natural2 .ensures .0,
+      n .before .before .before .natural .ensures .0,
+    )
 
 pub read-params-spec : {M : Type 1} → statement M
 read-params-spec =
