@@ -8,7 +8,7 @@ use lib.Dec.{ltb}
 use lib.IntN.{pos}
 use lib.ListN.{length}
 use lib.Signed.{_<ℤ_}
-use borrow.Author.Tests.{le-ltb, lt-ltb, ltb-false, eqb-true, not-false}
+use borrow.Author.Tests.{le-ltb, ltb-false}
 use Rattle.fixed.specs.Fixed.{fromBits, lessF}
 use Rattle.fixed.proofs.Ints.{ints}
 use Rattle.fixed.proofs.Order.{heights}

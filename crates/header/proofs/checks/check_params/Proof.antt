@@ -1,5 +1,5 @@
 -- `check_params` makes the tests of `paramRows` in their order: one that holds gives the answer, and one that does not is passed. Assumes nothing.
-use mathlib.Core.Path.{_≡_, refl, sym}
+use mathlib.Core.Path.{refl, sym}
 use mathlib.Core.List.{List}
 use Prim.Native.Nat.{ℕ}
 use mir.Syntax.{w32}

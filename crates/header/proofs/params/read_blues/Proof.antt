@@ -8,7 +8,6 @@ use lib.ListN.{length, set, replicate}
 use lib.Seq.{set-at}
 use borrow.Author.Needs.{needs}
 use Rattle.zones.specs.declared.blues.Blue.{Blue}
-use Rattle.zones.specs.declared.blues.Blues.{Blues}
 use Rattle.header.specs.Params.{pairAt, noPair, pairsFrom, bluesAt, pushedPair}
 use Rattle.header.proofs.params.read_blues.Statement.{statement}
 use Rattle.header.proofs.params.read_blues.Tie as tie

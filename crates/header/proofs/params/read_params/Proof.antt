@@ -1,6 +1,5 @@
 -- `read_params` meets its contract, by the contracts of its calls. Assumes nothing.
 use Prim.Native.Nat.{_+_, _*_, _≤_}
-use native.Mathlib.Omega.{arith}
 use lib.ListN.{length}
 use mir.Syntax.{w32}
 use mir.Val.{SFits}
