@@ -1,5 +1,6 @@
 -- `read_params` meets its contract, by the contracts of its calls. Assumes nothing.
 use Prim.Native.Nat.{_+_, _*_, _≤_}
+use native.Mathlib.Omega.{arith}
 use lib.ListN.{length}
 use mir.Syntax.{w32}
 use mir.Val.{SFits}
@@ -69,7 +70,9 @@ read-blues-requires-3 : tie.Need-read-blues-requires-3
 read-blues-requires-3 c κs = search needs
 
 read-blues-requires-4 : tie.Need-read-blues-requires-4
-read-blues-requires-4 c κs = last (c .before .before .before .before .before .before .before)
+read-blues-requires-4 c κs =
+    let h = last (c .before .before .before .before .before .before .before) in
+    (omega (arith, h), omega (arith, h))
 
 returns : tie.Need-returns
 unfolding paramsOf
