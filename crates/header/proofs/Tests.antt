@@ -1,0 +1,111 @@
+-- The way through a list of tests, and tests from facts on numbers and back. `omega tests` proves a test true or false. Assumes nothing.
+use mathlib.Core.Path.{_≡_, refl, sym, ap, _∙_}
+use mathlib.Core.Bool.{Bool, true, false, not, _&&_, _||_, true≢false}
+use mathlib.Core.List.{List, [], _∷_}
+use Prim.Native.Nat.{ℕ, zero, suc, _%_, _^_, _≤_, _<_}
+use native.Mathlib.Omega.{arith}
+use lib.Dec.{eqb, ltb}
+use lib.ListN.{length, drop}
+use borrow.Author.Tests.{lt-ltb, le-ltb, lt-leb, eq-eqb, ne-eqb, ltb-true, ltb-false, eqb-true, not-false}
+use Rattle.words.specs.declared.answer.Answer.the-variants.{Ok}
+use Rattle.words.specs.Answers.{numberOf, Row, firstOf}
+use Rattle.words.proofs.Rows.{rowAt, hit, skip}
+use Rattle.header.specs.Header.{differs, negative, outside, lengthBad}
+
+both-true : (a b : Bool) → (a && b) ≡ true → (a ≡ true) × (b ≡ true)
+both-true true b e = (refl, e)
+both-true false b e = absurd (true≢false (sym e))
+
+-- the first k tests do not hold
+pub record Past (rs : List Row) (k : ℕ) : Type 0 where
+  pub rest : firstOf rs ≡ firstOf (drop k rs)
+
+pub pass : {rs : List Row} (k : ℕ) → Past rs k → rowAt rs k .fault ≡ false → Past rs (suc k)
+pass {rs} k p e = record { rest = p .rest ∙ skip rs k e }
+
+within : (rs : List Row) (k : ℕ) → rowAt rs k .fault ≡ true → k < length rs
+within [] k e = absurd (true≢false (sym e))
+within (r ∷ rs) zero e = omega arith
+within (r ∷ rs) (suc k) e = omega (arith, within rs k e)
+
+-- and the next one does
+pub stop : {rs : List Row} (k : ℕ) → Past rs k → rowAt rs k .fault ≡ true → rowAt rs k .said ≡ firstOf rs
+stop {rs} k p e = sym (p .rest ∙ hit rs k (within rs k e) e)
+
+-- ---- where the answer is Ok, no test holds
+abbrev pub refuses : List Row → Bool
+refuses [] = true
+refuses (r ∷ rs) = ltb 0 (numberOf (r .said)) && refuses rs
+
+pub refusing : (rs : List Row) → refuses rs ≡ true → (k : ℕ) → k < length rs → 0 < numberOf (rowAt rs k .said)
+refusing [] h k l = absurd (omega arith)
+refusing (r ∷ rs) h zero l = ltb-true 0 (numberOf (r .said)) (both-true (ltb 0 (numberOf (r .said))) (refuses rs) h .0)
+refusing (r ∷ rs) h (suc k) l = refusing rs (both-true (ltb 0 (numberOf (r .said))) (refuses rs) h .1) k (omega arith)
+
+module _ (rs : List Row) (h : refuses rs ≡ true) (e : firstOf rs ≡ Ok) where
+  clear : (k : ℕ) → k < length rs → Past rs k → rowAt rs k .fault ≡ false
+  clear k l p = go (rowAt rs k .fault) refl
+    where
+      go : (b : Bool) → rowAt rs k .fault ≡ b → b ≡ false
+      go true f = absurd (omega (arith, refusing rs h k l, ap numberOf (stop k p f ∙ e)))
+      go false f = refl
+
+  reached : (k : ℕ) → k ≤ length rs → Past rs k
+  reached zero l = record { rest = refl }
+  reached (suc k) l = pass k (reached k (omega arith)) (clear k (omega arith) (reached k (omega arith)))
+
+  pub none : (k : ℕ) → k < length rs → rowAt rs k .fault ≡ false
+  none k l = clear k l (reached k (omega arith))
+
+-- ---- either of two tests
+second : (a b : Bool) → b ≡ true → (a || b) ≡ true
+second true b e = refl
+second false b e = e
+
+neither : (a b : Bool) → a ≡ false → b ≡ false → (a || b) ≡ false
+neither a b e f = rw (e, f)
+
+pub alike : (a b : ℕ) → differs a b ≡ false → a ≡ b
+alike a b e = eqb-true a b (not-false (eqb a b) e)
+
+pub both-false : (a b : Bool) → (a || b) ≡ false → (a ≡ false) × (b ≡ false)
+both-false true b e = absurd (true≢false e)
+both-false false b e = (refl, e)
+
+-- ---- tests from facts
+pub same : (a b : ℕ) → a ≡ b → differs a b ≡ false
+same a b e = ap not (eq-eqb a b e)
+
+pub other : (a b : ℕ) → (a ≡ b → ⊥) → differs a b ≡ true
+other a b e = ap not (ne-eqb a b e)
+
+pub low : (a b n : ℕ) → n < a → outside a b n ≡ true
+low a b n h = rw (lt-ltb n a h)
+
+pub high : (a b n : ℕ) → b < n → outside a b n ≡ true
+high a b n h = second (ltb n a) (ltb b n) (lt-ltb b n h)
+
+pub inside : (a b n : ℕ) → a ≤ n → n ≤ b → outside a b n ≡ false
+inside a b n l h = neither (ltb n a) (ltb b n) (le-ltb n a l) (le-ltb b n h)
+
+module _ (w a b : ℕ) where
+  pub past-end : a < b → (negative w || ltb a b) ≡ true
+  past-end h = second (negative w) (ltb a b) (lt-ltb a b h)
+
+  pub before-end : w < 2 ^ 31 → b ≤ a → (negative w || ltb a b) ≡ false
+  before-end l h = neither (negative w) (ltb a b) (lt-leb (2 ^ 31) w l) (le-ltb a b h)
+
+  pub off-end : (a ≡ b → ⊥) → (negative w || differs a b) ≡ true
+  off-end h = second (negative w) (differs a b) (other a b h)
+
+  pub at-end : w < 2 ^ 31 → a ≡ b → (negative w || differs a b) ≡ false
+  at-end l h = neither (negative w) (differs a b) (lt-leb (2 ^ 31) w l) (same a b h)
+
+pub ruleset tests = (arith, lt-ltb, le-ltb, same, other, past-end, off-end)
+
+-- ---- a length that is fine
+pub long : (n : ℕ) → lengthBad n ≡ false → (32 ≤ n) × (n ≤ 65536)
+unfolding lengthBad
+long n e =
+    let p = both-false (ltb n 32) (ltb 65536 n) (both-false (outside 32 65536 n) (differs (n % 4) 0) e .0) in
+    (ltb-false n 32 (p .0), ltb-false 65536 n (p .1))
