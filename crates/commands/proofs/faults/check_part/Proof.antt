@@ -58,7 +58,7 @@ loop-again c =
     let a = l .before .before .args in
     rw (moved (f .before))
     (l .loop .inv ∙
-    fault-behind (a .first) (a .part .now) (a .n) (a .bytes) (l .loop .at) (omega arith) (f .fault-in .result) (cc) (sym (c .before .code .ensures) ∙ c .if1 .left))
+    fault-behind (a .first) (a .part .now) (a .n) (a .bytes) (l .loop .at) (omega arith) (f .fault-in .result) (cc) (omega (arith, c .before .code .ensures, c .if1 .left)))
 
 returns-2 : tie.Need-returns-2 Inv-loop μ-loop
 unfolding firstOf
