@@ -7,32 +7,14 @@ use native.Mathlib.Omega.{arith}
 use lib.ListN.{length, take, drop, length-drop}
 use lib.Seq.{take-all}
 use lib.Dec.{ltb, leb}
-use borrow.Author.Tests.{lt-ltb, le-ltb, lt-leb, ltb-true, ltb-false}
+use borrow.Author.Tests.{lt-ltb, le-ltb, ltb-false}
 use Rattle.words.specs.declared.answer.Answer.{Answer}
 use Rattle.words.specs.declared.answer.Answer.the-variants.{Ok, BadCommand, BadMask}
-use Rattle.words.specs.Answers.{numberOf, Row, pickAnswer, firstOf, rowAt}
-use Rattle.words.proofs.Rows.{found}
+use Rattle.words.specs.Answers.{numberOf, Row, pickAnswer, firstOf}
+use Rattle.words.proofs.Rows.{found, is-ok, Refusing}
 use Rattle.commands.specs.declared.reading.Command.{Command}
-use Rattle.commands.specs.declared.reading.Read.{Read}
-use Rattle.commands.specs.Commands.{pick, operandsOf, nextAt, readAt, Placed, commandsFrom, commandsOf}
+use Rattle.commands.specs.Commands.{pick, nextAt, readAt, Placed, commandsFrom, commandsOf}
 use Rattle.commands.specs.Faults.{maskPast, isBad, hasBadMask, faultRows, commandRows}
-
--- for as many mask bytes as a script can hold the end alone decides
-pub past-is : (start len bytes : ℕ) → bytes ≤ 65536 → maskPast start len bytes ≡ ltb bytes (start + len)
-unfolding maskPast
-past-is start len bytes h = by (ltb bytes (start + len)) refl
-  where
-    any : (u v : Bool) → (u || (v || true)) ≡ true
-    any true v = refl
-    any false true = refl
-    any false false = refl
-    by : (t : Bool) → ltb bytes (start + len) ≡ t → (leb 2147483648 start || (leb 2147483648 len || t)) ≡ t
-    by true e = any (leb 2147483648 start) (leb 2147483648 len)
-    by false e =
-        let q : start + len ≤ bytes = ltb-false _ _ e in
-        let x : start < 2147483648 = omega arith in
-        let y : len < 2147483648 = omega arith in
-        rw (lt-leb 2147483648 start x, lt-leb 2147483648 len y)
 
 -- a mask that is not past its bytes ends among them
 pub mask-inside : (start len bytes : ℕ) → maskPast start len bytes ≡ false → start + len ≤ bytes
@@ -103,7 +85,7 @@ module _ (b : ℕ) (s : List ℕ) (n : ℕ) where
   rows-none bytes i h = ap (commandRows bytes) (none (n - i) i h)
 
 -- every test refuses
-pub rows-refusing : (bytes : ℕ) (cs : List Placed) (j : ℕ) → j < length (commandRows bytes cs) → 0 < numberOf (rowAt (commandRows bytes cs) j .said)
+pub rows-refusing : (bytes : ℕ) (cs : List Placed) → Refusing (commandRows bytes cs)
 unfolding commandRows
 rows-refusing bytes [] j h = absurd (no h)
   where
@@ -123,30 +105,25 @@ passes bytes place c rs e = by (isBad c) (hasBadMask bytes c) e
     by false true e = absurd (let z : _≡_ {A = ℕ} 5 0 = ap numberOf e in omega arith)
     by false false e = (refl, (refl, e))
 
-behind : (bytes place : ℕ) (c : Command) (rs : List Row) → numberOf (firstOf (faultRows bytes place c)) ≡ 0 → firstOf (faultRows bytes place c ++ rs) ≡ firstOf rs
+-- behind a command with no fault the other tests give the answer
+behind : (bytes place : ℕ) (c : Command) (rs : List Row) → firstOf (faultRows bytes place c) ≡ Ok → firstOf (faultRows bytes place c ++ rs) ≡ firstOf rs
 unfolding firstOf
-behind bytes place c rs e = by (isBad c) (hasBadMask bytes c) e
-  where
-    by : (u v : Bool) → numberOf (pickAnswer u (BadCommand place) (pickAnswer v (BadMask place) Ok)) ≡ 0 → pickAnswer u (BadCommand place) (pickAnswer v (BadMask place) (firstOf rs)) ≡ firstOf rs
-    by true v e = absurd (omega arith)
-    by false true e = absurd (omega arith)
-    by false false e = refl
+behind bytes place c rs e =
+    let p = passes bytes place c [] e in
+    rw (p .0, p .1 .0)
 
-pub faultless : (bytes b : ℕ) (s : List ℕ) (n i : ℕ) → i < n → firstOf (commandRows bytes (commandsFrom (n - i) b s n i)) ≡ Ok → (isBad (readAt s n i .command) ≡ false) × ((hasBadMask bytes (readAt s n i .command) ≡ false) × (firstOf (commandRows bytes (commandsFrom (n - nextAt s i) b s n (nextAt s i))) ≡ Ok))
-faultless bytes b s n i h e = passes bytes (b + i) (readAt s n i .command) _ (sym (ap firstOf (rows-first b s n bytes i h)) ∙ e)
+-- at a command that is there
+module _ (b : ℕ) (s : List ℕ) (n bytes i : ℕ) (h : i < n) where
+  pub faultless : firstOf (commandRows bytes (commandsFrom (n - i) b s n i)) ≡ Ok → (isBad (readAt s n i .command) ≡ false) × ((hasBadMask bytes (readAt s n i .command) ≡ false) × (firstOf (commandRows bytes (commandsFrom (n - nextAt s i) b s n (nextAt s i))) ≡ Ok))
+  faultless e = passes bytes (b + i) (readAt s n i .command) _ (sym (ap firstOf (rows-first b s n bytes i h)) ∙ e)
 
--- the first command's fault is the answer, and where it has none the commands behind it give it
-module _ (bytes b : ℕ) (s : List ℕ) (n i : ℕ) (r : Read) (f : Answer) (e : r ≡ readAt s n i) (g : f ≡ firstOf (faultRows bytes (b + i) (r .command))) (h : i < n) where
-  said : f ≡ firstOf (faultRows bytes (b + i) (readAt s n i .command))
-  said = g ∙ ap (λ (q : Read). firstOf (faultRows bytes (b + i) (q .command))) e
+  -- its fault is the answer
+  pub fault-here : (f : Answer) → f ≡ firstOf (faultRows bytes (b + i) (readAt s n i .command)) → 0 < numberOf f → f ≡ firstOf (commandRows bytes (commandsFrom (n - i) b s n i))
+  fault-here f g k = g ∙ sym (ap firstOf (rows-first b s n bytes i h) ∙ found _ _ (rw g at k))
 
-  pub fault-here : 0 < numberOf f → f ≡ firstOf (commandRows bytes (commandsFrom (n - i) b s n i))
-  fault-here k = said ∙ sym (ap firstOf (rows-first b s n bytes i h) ∙ found _ _ (rw said at k))
-
-  pub fault-behind : numberOf f ≡ 0 → firstOf (commandRows bytes (commandsFrom (n - i) b s n i)) ≡ firstOf (commandRows bytes (commandsFrom (n - r .next) b s n (r .next)))
-  fault-behind k =
-      ap firstOf (rows-first b s n bytes i h) ∙ behind bytes (b + i) (readAt s n i .command) _ (ap numberOf (sym said) ∙ k) ∙
-      sym (ap (λ (q : Read). firstOf (commandRows bytes (commandsFrom (n - q .next) b s n (q .next)))) e ∙ ap (λ (j : ℕ). firstOf (commandRows bytes (commandsFrom (n - j) b s n j))) (next-is s n i))
+  -- and where it has none the commands behind it give it
+  pub fault-behind : (f : Answer) → f ≡ firstOf (faultRows bytes (b + i) (readAt s n i .command)) → numberOf f ≡ 0 → firstOf (commandRows bytes (commandsFrom (n - i) b s n i)) ≡ firstOf (commandRows bytes (commandsFrom (n - nextAt s i) b s n (nextAt s i)))
+  fault-behind f g k = ap firstOf (rows-first b s n bytes i h) ∙ behind bytes (b + i) (readAt s n i .command) _ (sym g ∙ is-ok f k)
 
 -- the rest of a slice, from byte i on
 pub rest : (s : List ℕ) (i : ℕ) → take (length s - i) (drop i s) ≡ drop i s

@@ -15,8 +15,8 @@ use Rattle.fixed.proofs.Order.{heights}
 use Rattle.zones.specs.State.{Counted}
 use Rattle.words.specs.declared.answer.Answer.the-variants.{Ok}
 use Rattle.words.specs.Words.{rawAt, signed, numberAt}
-use Rattle.words.specs.Answers.{numberOf, firstOf}
-use Rattle.words.proofs.Rows.{rowAt}
+use Rattle.words.specs.Answers.{firstOf}
+use Rattle.words.proofs.Rows.{Refusing}
 use Rattle.header.specs.Header.{differs, negative, padded, headerRows}
 use Rattle.header.specs.Params.{pairsIn, paramRows, bluesAt, paramsOf, Whole}
 use Rattle.header.proofs.Tests.{refuses, refusing, none, both-false, alike, long}
@@ -42,10 +42,10 @@ module _ (s : List ℕ) where
   params-refuse = refl
 
   -- every test refuses
-  pub header-refusing : (k : ℕ) → k < length (headerRows s) → 0 < numberOf (rowAt (headerRows s) k .said)
+  pub header-refusing : Refusing (headerRows s)
   header-refusing = refusing (headerRows s) header-refuses
 
-  pub params-refusing : (k : ℕ) → k < length (paramRows s) → 0 < numberOf (rowAt (paramRows s) k .said)
+  pub params-refusing : Refusing (paramRows s)
   params-refusing = refusing (paramRows s) params-refuse
 
   pub fine : firstOf (headerRows s) ≡ Ok → Fine s

@@ -8,8 +8,8 @@ use lib.Dec.{eqb, ltb}
 use lib.ListN.{length, drop}
 use borrow.Author.Tests.{lt-ltb, le-ltb, lt-leb, eq-eqb, ne-eqb, ltb-true, ltb-false, eqb-true, not-false}
 use Rattle.words.specs.declared.answer.Answer.the-variants.{Ok}
-use Rattle.words.specs.Answers.{numberOf, Row, firstOf}
-use Rattle.words.proofs.Rows.{rowAt, hit, skip}
+use Rattle.words.specs.Answers.{numberOf, Row, firstOf, rowAt}
+use Rattle.words.proofs.Rows.{hit, skip, Refusing}
 use Rattle.header.specs.Header.{differs, negative, outside, lengthBad}
 
 both-true : (a b : Bool) → (a && b) ≡ true → (a ≡ true) × (b ≡ true)

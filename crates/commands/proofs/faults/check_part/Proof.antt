@@ -7,7 +7,7 @@ use native.Mathlib.Omega.{arith}
 use borrow.Author.Needs.{needs}
 use Rattle.words.specs.Answers.{firstOf}
 use Rattle.commands.specs.declared.reading.Read.{Read}
-use Rattle.commands.specs.Commands.{Placed, commandsFrom, commandsOf}
+use Rattle.commands.specs.Commands.{nextAt, Placed, commandsFrom, commandsOf}
 use Rattle.commands.specs.Faults.{commandRows}
 use Rattle.commands.proofs.Laws.{next-is, from-start, rows-none, fault-here, fault-behind}
 use Rattle.commands.proofs.faults.check_part.Statement.{statement}
@@ -18,6 +18,10 @@ Inv-loop part first n bytes at₀ at = firstOf (commandRows bytes (commandsOf fi
 
 abbrev μ-loop : tie.MeasureT-loop
 μ-loop part first n bytes at₀ at = n - at
+
+-- the word behind it
+moved : (c : tie.After-read-command Inv-loop μ-loop) → c .read-command .result .next ≡ nextAt (c .before .before .before .before .args .part .now) (c .before .before .loop .at)
+moved c = ap (λ (r : Read). r .next) (c .read-command .ensures) ∙ next-is _ _ _
 
 loop-holds : tie.Need-loop-holds Inv-loop μ-loop
 loop-holds c =
@@ -41,21 +45,20 @@ returns c =
     let f = c .before .before in
     let l = f .before .before .before in
     let a = l .before .before .args in
-    fault-here (a .bytes) (a .first) (a .part .now) (a .n) (l .loop .at) _ _ (f .before .read-command .ensures) (f .fault-in .ensures) (omega arith) (omega (arith, c .before .code .ensures, c .if1 .taken)) ∙
+    fault-here (a .first) (a .part .now) (a .n) (a .bytes) (l .loop .at) (omega arith) (f .fault-in .result) (cc) (omega (arith, c .before .code .ensures, c .if1 .taken)) ∙
     sym (l .loop .inv)
 
 loop-less : tie.Need-loop-less Inv-loop μ-loop
-loop-less c =
-    let r = c .before .before .before in
-    omega (arith, ap (λ (q : Read). q .next) (r .read-command .ensures) ∙ next-is _ _ _)
+loop-less c = omega (arith, moved (c .before .before .before))
 
 loop-again : tie.Need-loop-again Inv-loop μ-loop
 loop-again c =
     let f = c .before .before in
     let l = f .before .before .before in
     let a = l .before .before .args in
-    l .loop .inv ∙
-    fault-behind (a .bytes) (a .first) (a .part .now) (a .n) (l .loop .at) _ _ (f .before .read-command .ensures) (f .fault-in .ensures) (omega arith) (sym (c .before .code .ensures) ∙ c .if1 .left)
+    rw (moved (f .before))
+    (l .loop .inv ∙
+    fault-behind (a .first) (a .part .now) (a .n) (a .bytes) (l .loop .at) (omega arith) (f .fault-in .result) (cc) (omega (arith, c .before .code .ensures, c .if1 .left)))
 
 returns-2 : tie.Need-returns-2 Inv-loop μ-loop
 unfolding firstOf

@@ -1,6 +1,7 @@
 -- `read_command` gives the command of the kind that it reads, or a bad one where the operands are cut off. Assumes nothing.
-use mathlib.Core.Path.{_≡_, ap, _∙_}
+use mathlib.Core.Path.{ap, _∙_}
 use Prim.Native.Nat.{_≤_, _<_}
+use native.Mathlib.Omega.{arith}
 use borrow.Author.Needs.{needs}
 use borrow.Author.Tests.{lt-ltb, le-ltb}
 use Rattle.commands.specs.Commands.{operandsOf, nextAt, readAt}
@@ -24,7 +25,7 @@ unfolding readAt
 returns c =
     let a = c .before .before .before .before .args in
     let e = c .before .operands .ensures .0 ∙ ap operandsOf (c .before .before .natural .ensures .0) in
-    let t : a .n < nextAt (a .part .now) (a .at) = rw e at (c .if1 .taken) in
+    let t : a .n < nextAt (a .part .now) (a .at) = omega (arith, e) in
     rw (e, lt-ltb _ _ t)
 
 command-of-requires : tie.Need-command-of-requires
@@ -36,7 +37,7 @@ returns-2 c =
     let a = c .before .before .before .before .before .args in
     let r = c .before .before .before .natural .ensures .0 in
     let e = c .before .before .operands .ensures .0 ∙ ap operandsOf r in
-    let t : nextAt (a .part .now) (a .at) ≤ a .n = rw e at (c .before .if1 .left) in
+    let t : nextAt (a .part .now) (a .at) ≤ a .n = omega (arith, e) in
     rw (e, le-ltb _ _ t, c .command-of .ensures, r)
 
 pub read-command-spec : {M : Type 1} → statement M
