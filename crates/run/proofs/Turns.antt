@@ -151,13 +151,13 @@ module _ (st : HintState) (s part : List ℕ) (first n from : ℕ) where
           along = wrote (following (steps-first h pen i e t k f q) (g .along)) r;
           bytes = g .bytes;
           inside = g .inside;
-          fine = faultless (g .bytes) first part n at i (g .fine) .1 .1;
+          fine = faultless first part n (g .bytes) at i (g .fine) .1 .1;
         }
 
     -- the mask that a command names lies in the script
     pub mask-there : {m : Marking} → readAt part n at .command ≡ Mark m → from + maskEnd m ≤ length s
     mask-there {m} e =
-        let b = faultless (g .bytes) first part n at i (g .fine) .1 .0 in
+        let b = faultless first part n (g .bytes) at i (g .fine) .1 .0 in
         omega (arith, g .inside, end-inside (g .bytes) m (ap (hasBadMask (g .bytes)) (sym e) ∙ b))
 
     -- a command that writes nothing

@@ -9,6 +9,7 @@ use words::natural;
 use words::number;
 use zones::HintState;
 ghost use mathlib.Core.Path.{_≡_};
+ghost use mathlib.Core.List.{[], _∷_};
 ghost use Prim.Native.Nat.{_≤_, _<_};
 ghost use lib.IntN.{pos};
 ghost use lib.ListN.{length};
@@ -17,7 +18,7 @@ ghost use Rattle.words.specs.declared.answer.Answer.the-variants.{Ok};
 ghost use Rattle.words.specs.Answers.{firstOf};
 ghost use Rattle.run.specs.Run.{outcomeOf, Ended};
 ghost use Rattle.run.specs.Room.{fitted};
-ghost use Rattle.script.specs.Script.{checkRows, zonesOf, stepsIn, headerWords, scriptOf, Scripted};
+ghost use Rattle.script.specs.Script.{checkRows, zonesOf, stepsIn, scriptOf, Scripted};
 
 // The zones of a script that passes all tests, made once.
 fn zones_of(script: &[u8]) -> HintState
@@ -42,7 +43,7 @@ fn run_commands(script: &[u8], out: &mut [i32]) -> Ran
 // The first four words of a result.
 fn seal(out: &mut [i32], records: u32, words: u32)
     requires { ⌜ (4 ≤ length (now out)) × ((records < 2147483648) × (words < 2147483648)) ⌝ }
-    ensures { λ r. ⌜ now (out .exit) ≡ written (headerWords records words) (now (out .entry)) ⌝ }
+    ensures { λ r. ⌜ now (out .exit) ≡ written (pos 1 ∷ pos records ∷ pos 4 ∷ pos words ∷ []) (now (out .entry)) ⌝ }
 {
     out[0] = 1;
     out[1] = records as i32;
