@@ -431,6 +431,9 @@ fn mixed_extremes(n: &mut Numbers) -> Script {
             }
             _ => {
                 let length = script.commands.len();
+                if length == 0 {
+                    continue;
+                }
                 let command = &mut script.commands[n.index(length)];
                 if command.kind != 2 && command.kind != 3 && !command.operands.is_empty() {
                     let place = n.index(command.operands.len());
@@ -680,7 +683,7 @@ fn damaged(n: &mut Numbers) -> (Vec<u8>, usize) {
             let place = 12 + n.index(4);
             words[place] = other_word(n, words[place]);
         }
-        5 => {
+        5 if !places.is_empty() => {
             let (place, _) = n.pick(&places);
             words[place] = n.pick(&[0, 10, -1, i32::MIN, i32::MAX, 11, 256]);
         }

@@ -1,4 +1,4 @@
-//! Counters of the model's branches: for every named condition, whether it came out false and whether true.
+//! Marks of the model's branches: for every named condition, whether it came out false and whether true.
 
 use std::sync::atomic::{AtomicU64, Ordering::Relaxed};
 
@@ -12,13 +12,15 @@ macro_rules! branches {
 }
 
 branches! {
+    // Cases of a match, which happen or not.
+    run_stem, run_hint_mask, run_counter_mask, run_clear, run_move, run_line, run_curve, run_close, run_finish,
+    adjust_both, adjust_only_up, adjust_only_down, adjust_stays,
     // The script.
     script_length_fits, script_version_is_one, script_parameters_at_eight, script_parameter_count_fits,
     script_commands_follow, script_commands_end_inside, script_masks_follow, script_masks_end_script,
     script_padding_is_zero, script_scale_is_positive, script_list_counts_fit, script_pairs_fill_parameters,
     command_kind_is_known, command_operands_are_there, command_mask_is_inside, room_for_header,
     call_fits, call_without_records_in_no_room,
-    run_stem, run_hint_mask, run_counter_mask, run_clear, run_move, run_line, run_curve, run_close, run_finish,
     // Zones.
     group_is_one, em_box_without_blues, em_box_with_two_blues, blue_height_is_negative, blue_is_first_kept,
     other_blue_height_is_negative, other_blue_past_five, family_distance_counts, family_distance_is_nearer,
@@ -41,8 +43,8 @@ branches! {
     map_is_empty, map_under_all, map_above_all,
     // Adjusting.
     adjust_is_pair, adjust_is_locked, adjust_upper_edge_gives_up, adjust_upper_edge_gives_down,
-    adjust_edge_above, adjust_room_up, adjust_edge_below, adjust_room_down, adjust_both, adjust_down_is_shorter,
-    adjust_tie, adjust_only_up, adjust_only_down, adjust_stays, adjust_up_was_shorter, adjust_note_edge_locked,
+    adjust_edge_above, adjust_room_up, adjust_edge_below, adjust_room_down, adjust_down_is_shorter,
+    adjust_tie, adjust_up_was_shorter, adjust_note_edge_locked,
     adjust_noted, adjust_edge_before, adjust_heights_equal, second_pass_room, second_pass_several,
     // Building.
     build_initial_is_valid, build_em_box, build_for_initial, build_stem_is_locked, build_stem_is_captured,
@@ -54,6 +56,8 @@ branches! {
     counter_mask_with_valid_initial, point_after_counter_mask,
 }
 
+/// How many of the first names are cases of a match.
+pub const EVENTS: usize = 13;
 pub const COUNT: usize = NAMES.len() * 2;
 pub const WORDS: usize = COUNT.div_ceil(64);
 pub type Set = [u64; WORDS];
@@ -76,6 +80,11 @@ pub fn take() -> Set {
         from.store(0, Relaxed);
     }
     set
+}
+
+/// Whether a bit stands for something that could be seen.
+pub fn can_be(bit: usize) -> bool {
+    bit / 2 >= EVENTS || bit % 2 == 1
 }
 
 pub fn name(bit: usize) -> String {

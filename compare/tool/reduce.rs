@@ -7,23 +7,25 @@ use generate::{Case, Script};
 /// How far from simple a case is; smaller is simpler.
 pub fn size(case: &Case) -> (usize, u64) {
     let weight = |word: &[u8]| i32::from_le_bytes([word[0], word[1], word[2], word[3]]).unsigned_abs() as u64;
-    (case.script.len() + case.room, case.script.chunks_exact(4).map(weight).sum())
+    (case.script.len() + 4 * case.room, case.script.chunks_exact(4).map(weight).sum())
 }
 
 fn passes(script: &[u8]) -> bool {
     model::script::check(script).is_ok()
 }
 
-fn simpler_values(value: i32, whole: bool) -> Vec<i32> {
-    let mut list = vec![0, 1, 65536, -65536];
-    if whole {
-        list.extend([value / 65536 * 65536, value / 655_360 * 655_360, value / 6_553_600 * 6_553_600]);
+/// Values to try in place of one, the simplest first; a whole number of units stays whole.
+fn simpler_values(value: i32, heights: bool) -> Vec<i32> {
+    let step = if heights && value % 65536 == 0 { 65536 } else { 1 };
+    let units = value / step;
+    let mut list = vec![0];
+    if heights && step == 1 {
+        list.extend([100, 10, 1].map(|tens| value / (tens * 65536) * (tens * 65536)));
     }
-    list.extend([value / 2, value / 4 * 3, value.saturating_sub(value.signum())]);
-    list.retain(|&other| {
-        (other.unsigned_abs(), other < 0) < (value.unsigned_abs(), value < 0)
-            || (other % 65536 == 0 && value % 65536 != 0 && other != value)
-    });
+    let parts = [1, units.signum(), units / 100 * 100, units / 10 * 10, units / 2, units - units / 4, units - units.signum()];
+    list.extend(parts.map(|other| other * step));
+    list.retain(|&other| (other.unsigned_abs(), other < 0) < (value.unsigned_abs(), value < 0));
+    list.dedup();
     list
 }
 
@@ -92,8 +94,10 @@ fn simpler_scripts(script: &Script) -> Vec<Script> {
             list.push(other);
         }
     }
-    for value in [65_536, 32_768, 2048, 1024] {
-        if value != script.scale && (script.scale != 1024) {
+    let scales = [1024, 2048, 4096, 32_768, 65_536];
+    let rank = |scale: i32| scales.iter().position(|&other| other == scale).unwrap_or(scales.len());
+    for value in scales {
+        if rank(value) < rank(script.scale) {
             let mut other = script.clone();
             other.scale = value;
             list.push(other);
@@ -154,7 +158,7 @@ pub fn smallest(case: &Case, left: Side, right: Side) -> Case {
         return best;
     }
     let mut rounds = 0;
-    'search: while rounds < 2000 {
+    'search: while rounds < 5000 {
         rounds += 1;
         let candidates: Vec<Case> = if passes(&best.script) {
             simpler_scripts(&Script::parse(&best.script))

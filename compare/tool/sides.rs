@@ -2,7 +2,7 @@
 
 use generate::Case;
 
-#[derive(Copy, Clone, PartialEq)]
+#[derive(Copy, Clone)]
 pub struct Side {
     pub name: &'static str,
     pub run: fn(&[u8], &mut [i32]) -> (i32, i32),
