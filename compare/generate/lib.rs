@@ -1,5 +1,6 @@
 //! Scripts to compare on, in named families. A case is given by a seed and its number alone.
 
+pub mod batch;
 pub mod families;
 pub mod parts;
 

@@ -1,45 +1,30 @@
-//! The batch protocol, and comparisons with commands that speak it or that read one script.
+//! Comparisons with commands that speak the batch protocol or that read one script.
 
 use crate::reduce;
 use crate::scripts::Tally;
 use crate::sides::{self, Answer, Side};
-use generate::{case, lent_word, Case};
+use generate::parts::join;
+use generate::{batch, case, Case};
 use std::io::{BufReader, BufWriter, Read, Write};
-use std::process::{Command, Stdio};
+use std::process::{Child, Command, Stdio};
 use std::time::Instant;
 
-fn read_word(from: &mut impl Read) -> Option<i32> {
-    let mut bytes = [0; 4];
-    from.read_exact(&mut bytes).ok()?;
-    Some(i32::from_le_bytes(bytes))
+fn words_of(bytes: &[u8]) -> impl Iterator<Item = i32> + '_ {
+    bytes.chunks_exact(4).map(|four| i32::from_le_bytes([four[0], four[1], four[2], four[3]]))
 }
 
-/// Answers cases from standard input until it ends.
-pub fn answer(side: Side) -> bool {
-    let mut input = BufReader::new(std::io::stdin().lock());
-    let mut output = BufWriter::new(std::io::stdout().lock());
-    while let Some(length) = read_word(&mut input) {
-        let (Some(room), Some(fill)) = (read_word(&mut input), read_word(&mut input)) else { return false };
-        let mut script = vec![0; length as usize];
-        if input.read_exact(&mut script).is_err() {
-            return false;
-        }
-        let mut words: Vec<i32> = (0..room as u32).map(|place| lent_word(fill as u32, place)).collect();
-        let (number, place) = (side.run)(&script, &mut words);
-        let answer = [number, place].into_iter().chain(words);
-        let bytes: Vec<u8> = answer.flat_map(|word| word.to_le_bytes()).collect();
-        if output.write_all(&bytes).is_err() {
-            return false;
-        }
-    }
-    output.flush().is_ok()
+fn start(command: &str, rest: &[&str]) -> Child {
+    Command::new(command).args(rest).stdin(Stdio::piped()).stdout(Stdio::piped()).spawn().unwrap_or_else(|error| {
+        eprintln!("compare: {command}: {error}");
+        std::process::exit(2)
+    })
 }
 
-/// Keeps the count and a few cases on which the other side differs from the model.
+/// Keeps the counts, and shows the first cases on which the other side differs from the model.
 struct Judge {
     tally: Tally,
     oracle: Side,
-    shown: usize,
+    differ: u64,
     began: Instant,
 }
 
@@ -48,7 +33,7 @@ impl Judge {
         Judge {
             tally: Tally::new(vec!["other/model", "other/Rust", "model/Rust"]),
             oracle: sides::oracle(),
-            shown: 0,
+            differ: 0,
             began: Instant::now(),
         }
     }
@@ -57,10 +42,10 @@ impl Judge {
         let differ = [other != ours, other != theirs, ours != theirs];
         self.tally.note(case.family, other.number, &differ);
         if differ[0] {
-            self.shown += 1;
-            if self.shown <= 5 {
+            self.differ += 1;
+            if self.differ <= 5 {
                 println!("Case {number} differs from the model:");
-                println!("  other     answers {} at {}: {}", other.number, other.place, generate::parts::join(&other.words));
+                println!("  other     answers {} at {}: {}", other.number, other.place, join(&other.words));
                 reduce::show(case, &[sides::MODEL, self.oracle]);
             }
         }
@@ -69,50 +54,68 @@ impl Judge {
     fn end(&self, count: u64) -> bool {
         self.tally.print();
         println!("{count} scripts in {:.1} s.", self.began.elapsed().as_secs_f64());
-        self.shown == 0
+        self.differ == 0
     }
 }
 
-/// Compares a command that speaks the batch protocol with the model and the Rust.
-pub fn against(seed: u64, count: u64, command: &str, rest: &[&str]) -> bool {
-    let mut child = Command::new(command)
-        .args(rest)
-        .stdin(Stdio::piped())
-        .stdout(Stdio::piped())
-        .spawn()
-        .unwrap_or_else(|error| {
-            eprintln!("against: {command}: {error}");
-            std::process::exit(2)
-        });
+/// Sends the cases to a command that speaks the batch protocol and hands its answers on until told to stop.
+fn each_answer(seed: u64, count: u64, command: &str, rest: &[&str], mut take: impl FnMut(u64, Case, Answer) -> bool) -> bool {
+    let mut child = start(command, rest);
     let to = child.stdin.take().unwrap();
     let mut from = BufReader::new(child.stdout.take().unwrap());
     let writer = std::thread::spawn(move || {
         let mut to = BufWriter::new(to);
         for number in 0..count {
-            let case = case(seed, number);
-            let header = [case.script.len() as i32, case.room as i32, case.fill as i32];
-            let mut bytes: Vec<u8> = header.iter().flat_map(|word| word.to_le_bytes()).collect();
-            bytes.extend(&case.script);
-            if to.write_all(&bytes).is_err() {
+            if to.write_all(&batch::request(&case(seed, number))).is_err() {
                 return;
             }
         }
     });
-    let mut judge = Judge::new();
+    let mut whole = true;
     for number in 0..count {
         let case = case(seed, number);
         let mut bytes = vec![0; 8 + 4 * case.room];
         if from.read_exact(&mut bytes).is_err() {
             println!("The other side stopped at case {number}.");
-            return false;
+            whole = false;
+            break;
         }
-        let mut words = bytes.chunks_exact(4).map(|four| i32::from_le_bytes([four[0], four[1], four[2], four[3]]));
-        let other = Answer { number: words.next().unwrap(), place: words.next().unwrap(), words: words.collect() };
-        judge.judge(&case, number, &other, &sides::MODEL.answer(&case), &judge.oracle.answer(&case));
+        let mut words = words_of(&bytes);
+        let answer = Answer { number: words.next().unwrap(), place: words.next().unwrap(), words: words.collect() };
+        if !take(number, case, answer) {
+            break;
+        }
     }
+    drop(from);
     let _ = writer.join();
     let _ = child.wait();
-    judge.end(count)
+    whole
+}
+
+/// Compares such a command with the model and the Rust.
+pub fn against(seed: u64, count: u64, command: &str, rest: &[&str]) -> bool {
+    let mut judge = Judge::new();
+    let whole = each_answer(seed, count, command, rest, |number, case, other| {
+        let (ours, theirs) = (sides::MODEL.answer(&case), judge.oracle.answer(&case));
+        judge.judge(&case, number, &other, &ours, &theirs);
+        true
+    });
+    judge.end(count) && whole
+}
+
+/// Says on which case such a command first differs from the Rust, change request 4 apart.
+pub fn detect(seed: u64, count: u64, command: &str, rest: &[&str]) -> bool {
+    let mut found = false;
+    let oracle = sides::oracle();
+    each_answer(seed, count, command, rest, |number, case, other| {
+        let theirs = oracle.answer(&case);
+        found = other != theirs && sides::MODEL.answer(&case) == theirs;
+        if found {
+            println!("seen at case {number}, in {}", generate::FAMILIES[case.family]);
+        }
+        !found
+    });
+    found
 }
 
 /// Compares a program that reads one script and lends 16,384 words with the model and the Rust.
@@ -120,20 +123,11 @@ pub fn program(seed: u64, count: u64, command: &str, rest: &[&str]) -> bool {
     let mut judge = Judge::new();
     for number in 0..count {
         let case = Case { room: 16_384, ..case(seed, number) };
-        let mut child = Command::new(command)
-            .args(rest)
-            .stdin(Stdio::piped())
-            .stdout(Stdio::piped())
-            .spawn()
-            .unwrap_or_else(|error| {
-                eprintln!("program: {command}: {error}");
-                std::process::exit(2)
-            });
+        let mut child = start(command, rest);
         // A program that has read enough of an overlong script may stop reading.
         let _ = child.stdin.take().unwrap().write_all(&case.script);
         let output = child.wait_with_output().expect("the program's output can be read");
-        let mut words =
-            output.stdout.chunks_exact(4).map(|four| i32::from_le_bytes([four[0], four[1], four[2], four[3]]));
+        let mut words = words_of(&output.stdout);
         let other = Answer {
             number: words.next().unwrap_or(-1),
             place: words.next().unwrap_or(-1),

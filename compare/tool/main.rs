@@ -15,6 +15,8 @@ fn usage() -> ! {
     eprintln!("       compare scripts COUNT            the model with the Rust");
     eprintln!("       compare against COUNT COMMAND    a command that speaks the batch protocol, with the model and the Rust");
     eprintln!("       compare program COUNT COMMAND    a program that reads one script, with the model and the Rust");
+    eprintln!("       compare detect COUNT COMMAND     the first case on which such a command differs from the Rust");
+    eprintln!("       compare once SIDE                reads one script and answers like the program");
     eprintln!("       compare answer SIDE              speaks the batch protocol; SIDE is model, amended, stand-in or fetched");
     eprintln!("       compare reduce FILE              the smallest script near the one in FILE on which model and Rust differ");
     eprintln!("       compare sample COUNT SIZE FILE   chooses SIZE cases among COUNT and writes them with their answers");
@@ -31,7 +33,9 @@ fn main() {
         ["scripts", number] => scripts::compare(SEED, count(number)),
         ["against", number, command, ref rest @ ..] => batch::against(SEED, count(number), command, rest),
         ["program", number, command, ref rest @ ..] => batch::program(SEED, count(number), command, rest),
-        ["answer", side] => batch::answer(sides::by_name(side).unwrap_or_else(|| usage())),
+        ["detect", number, command, ref rest @ ..] => batch::detect(SEED, count(number), command, rest),
+        ["answer", side] => generate::batch::serve(sides::by_name(side).unwrap_or_else(|| usage()).run),
+        ["once", side] => sides::once(sides::by_name(side).unwrap_or_else(|| usage())),
         ["reduce", file] => reduce::file(file),
         ["sample", number, size, file] => sample::write(SEED, count(number), count(size) as usize, file),
         ["coverage", number] => coverage::print(SEED, count(number)),

@@ -1,6 +1,7 @@
 //! The sides of a comparison, each a function from a script and a lent output to number and place.
 
 use generate::Case;
+use std::io::{Read, Write};
 
 #[derive(Copy, Clone)]
 pub struct Side {
@@ -49,4 +50,18 @@ impl Side {
         let (number, place) = (self.run)(&case.script, &mut words);
         Answer { number, place, words }
     }
+}
+
+/// Reads one script, lends 16,384 words and writes number, place and, if all is well, the result.
+pub fn once(side: Side) -> bool {
+    let mut script = Vec::new();
+    if std::io::stdin().read_to_end(&mut script).is_err() {
+        return false;
+    }
+    let mut words = vec![0; 16_384];
+    let (number, place) = (side.run)(&script, &mut words);
+    let length = if number == 0 { 4 + words[3] as usize } else { 0 };
+    let answer = [number, place].into_iter().chain(words[..length].iter().copied());
+    let bytes: Vec<u8> = answer.flat_map(|word| word.to_le_bytes()).collect();
+    std::io::stdout().write_all(&bytes).is_ok()
 }
