@@ -2,6 +2,7 @@
 
 mod batch;
 mod coverage;
+mod figures;
 mod numbers;
 mod reduce;
 mod sample;
@@ -11,7 +12,8 @@ mod sides;
 const SEED: u64 = 0x5B00_6C1A_C1E5;
 
 fn usage() -> ! {
-    eprintln!("usage: compare numbers MILLIONS");
+    eprintln!("usage: compare figures                  the figures that 01 gives");
+    eprintln!("       compare numbers MILLIONS");
     eprintln!("       compare scripts COUNT            the model with the Rust");
     eprintln!("       compare against COUNT COMMAND    a command that speaks the batch protocol, with the model and the Rust");
     eprintln!("       compare program COUNT COMMAND    a program that reads one script, with the model and the Rust");
@@ -29,6 +31,7 @@ fn main() {
     let words: Vec<&str> = given.iter().map(String::as_str).collect();
     let count = |text: &str| text.parse::<u64>().unwrap_or_else(|_| usage());
     let agreed = match words[..] {
+        ["figures"] => figures::check(),
         ["numbers", millions] => numbers::compare(count(millions)),
         ["scripts", number] => scripts::compare(SEED, count(number)),
         ["against", number, command, ref rest @ ..] => batch::against(SEED, count(number), command, rest),
