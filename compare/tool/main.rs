@@ -9,7 +9,12 @@ mod sample;
 mod scripts;
 mod sides;
 
-const SEED: u64 = 0x5B00_6C1A_C1E5;
+/// The seed of all scripts, unless COMPARE_SEED gives another.
+const SEED: u64 = 100_057_371_820_517;
+
+fn seed() -> u64 {
+    std::env::var("COMPARE_SEED").ok().and_then(|text| text.parse().ok()).unwrap_or(SEED)
+}
 
 fn usage() -> ! {
     eprintln!("usage: compare figures                  the figures that 01 gives");
@@ -33,15 +38,15 @@ fn main() {
     let agreed = match words[..] {
         ["figures"] => figures::check(),
         ["numbers", millions] => numbers::compare(count(millions)),
-        ["scripts", number] => scripts::compare(SEED, count(number)),
-        ["against", number, command, ref rest @ ..] => batch::against(SEED, count(number), command, rest),
-        ["program", number, command, ref rest @ ..] => batch::program(SEED, count(number), command, rest),
-        ["detect", number, command, ref rest @ ..] => batch::detect(SEED, count(number), command, rest),
+        ["scripts", number] => scripts::compare(seed(), count(number)),
+        ["against", number, command, ref rest @ ..] => batch::against(seed(), count(number), command, rest),
+        ["program", number, command, ref rest @ ..] => batch::program(seed(), count(number), command, rest),
+        ["detect", number, command, ref rest @ ..] => batch::detect(seed(), count(number), command, rest),
         ["answer", side] => generate::batch::serve(sides::by_name(side).unwrap_or_else(|| usage()).run),
         ["once", side] => sides::once(sides::by_name(side).unwrap_or_else(|| usage())),
         ["reduce", file] => reduce::file(file),
-        ["sample", number, size, file] => sample::write(SEED, count(number), count(size) as usize, file),
-        ["coverage", number] => coverage::print(SEED, count(number)),
+        ["sample", number, size, file] => sample::write(seed(), count(number), count(size) as usize, file),
+        ["coverage", number] => coverage::print(seed(), count(number)),
         _ => usage(),
     };
     std::process::exit(if agreed { 0 } else { 1 });
