@@ -29,7 +29,7 @@ same-length : tie.Need-same-length
 same-length c = search needs
 
 returns : tie.Need-returns
-returns c = 
+returns c =
     let bytes = c .before .before .before .before .store2 .last .0 in
     let h : 8 ≤ length bytes = search needs in
     (h, sym (length-take-le 8 bytes h))
@@ -50,7 +50,7 @@ same-length-2 : tie.Need-same-length-2
 same-length-2 c = search needs
 
 returns-2 : tie.Need-returns-2
-returns-2 c = 
+returns-2 c =
     let bytes = c .before .before .encode .last .1 .1 .0 in
     let n = 8 + 4 * c .before .before .before .before .result-words .result in
     let h : n ≤ length bytes = search needs in

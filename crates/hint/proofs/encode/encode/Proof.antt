@@ -38,7 +38,7 @@ bits-requires : tie.Need-bits-requires Inv-loop μ-loop
 bits-requires c κs = search needs
 
 store-requires : tie.Need-store-requires Inv-loop μ-loop
-store-requires c κs = 
+store-requires c κs =
     let l = c .before .before .before .before in
     omega (arith, ap length (l .loop .inv .0) ∙ encoded-length (l .before .before .args .out .now) (l .loop .i) (l .before .before .args .bytes .now), l .before .before .pre)
 
@@ -50,12 +50,11 @@ loop-less c = search needs
 
 loop-again : tie.Need-loop-again Inv-loop μ-loop
 unfolding encoded
-loop-again c = 
+loop-again c =
     let b = c .before .before .before in
     let l = b .before .before .before .before in
     let a = l .before .before .args in
-    let f : SFits w32 (getD (a .out .now) (l .loop .i) (pos 0)) = search needs in
-    (
+    let f : SFits w32 (getD (a .out .now) (l .loop .i) (pos 0)) = search needs in (
       rw add-one (c .before .before .store .ensures ∙ ap (λ (x : List ℕ). stored x (l .loop .i + 2) (b .bits .result)) (l .loop .inv .0) ∙ ap (stored (encoded (a .out .now) (l .loop .i) (a .bytes .now)) (l .loop .i + 2)) (b .bits .ensures ∙ ap bitsOf (toZ-ofZ f))),
       omega arith,
     )
@@ -64,7 +63,7 @@ same-length : tie.Need-same-length Inv-loop μ-loop
 same-length c = ap length (c .before .loop .inv .0) ∙ encoded-length (c .before .before .before .args .out .now) (c .before .loop .i) (c .before .before .before .args .bytes .now)
 
 returns : tie.Need-returns Inv-loop μ-loop
-returns c = 
+returns c =
     let n : c .before .loop .i ≡ c .before .before .before .args .words = omega arith in
     c .before .loop .inv .0 ∙ ap (λ (k : ℕ). encoded (c .before .before .before .args .out .now) k (c .before .before .before .args .bytes .now)) n
 
