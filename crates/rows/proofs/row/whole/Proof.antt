@@ -1,4 +1,4 @@
--- `rows::whole` is safe: where the cast stands the number is not below 0. Assumes nothing.
+-- `row::whole` is safe: where the cast stands the number is not below 0. Assumes nothing.
 use mathlib.Core.Path.{sym, subst}
 use mathlib.Core.Bool as B
 use native.Mathlib.Omega.{arith}
@@ -7,8 +7,8 @@ use lib.IntN.{pos}
 use lib.Signed.{ltZ, natAbs-le, yes-nonNeg, ltZ-no}
 use mir.Facts.{toZ-ofZ}
 use borrow.Author.Needs.{needs}
-use Rattle.figures_map.proofs.rows.whole.Statement.{statement}
-use Rattle.figures_map.proofs.rows.whole.Tie as tie
+use Rattle.rows.proofs.row.whole.Statement.{statement}
+use Rattle.rows.proofs.row.whole.Tie as tie
 
 not : (c : tie.Else1) → T (B.not (ltZ (c .before .args .n) (pos 0)))
 not c = subst (λ (b : B.Bool). T (B.not b)) (sym (rw (toZ-ofZ (c .before .fits .n)) at (c .if1 .left))) tt

@@ -1,10 +1,10 @@
--- `masks::mask_at` is safe and ends. The loop's invariant: `i` is at most the count of bytes, and there are 13 bytes. The measure is what is left of the count. Assumes nothing.
+-- `given::mask` is safe and ends. The loop's invariant: `i` is at most the count of bytes, and there are 13 bytes. The measure is what is left of the count. Assumes nothing.
 use Prim.Native.Nat.{_≤_, _-_}
 use mathlib.Core.Path.{_≡_}
 use lib.ListN.{length}
 use borrow.Author.Needs.{needs}
-use Rattle.figures.proofs.masks.mask_at.Statement.{statement}
-use Rattle.figures.proofs.masks.mask_at.Tie as tie
+use Rattle.rows.proofs.given.mask.Statement.{statement}
+use Rattle.rows.proofs.given.mask.Tie as tie
 
 abbrev Inv-loop : tie.InvT-loop
 Inv-loop row at n bytes₀ i₀ bytes i = (i ≤ n) × (length bytes ≡ 13)
@@ -57,8 +57,8 @@ new-requires c κs = search needs
 returns : tie.Need-returns Inv-loop μ-loop
 returns c = search needs
 
-pub mask-at-spec : {M : Type 1} → statement M
-mask-at-spec =
+pub mask-spec : {M : Type 1} → statement M
+mask-spec =
     tie.close
     (tie.spec
     Inv-loop

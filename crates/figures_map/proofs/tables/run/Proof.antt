@@ -1,11 +1,11 @@
--- `rows::run` is safe and ends. The loop's invariant: `at` is at most the table's length, no more rows were run than numbers passed, and no more differ than were run. The measure is what is left of the table. Assumes nothing.
+-- `tables::run` is safe and ends. The loop's invariant: `at` is at most the table's length, no more rows were run than numbers passed, and no more differ than were run. The measure is what is left of the table. Assumes nothing.
 use mathlib.Core.Logic.{⊎-elim}
 use Prim.Native.Nat.{_≤_, _-_}
 use lib.ListN.{length}
 use native.Mathlib.Omega.{arith}
 use borrow.Author.Needs.{needs}
-use Rattle.figures.proofs.rows.run.Statement.{statement}
-use Rattle.figures.proofs.rows.run.Tie as tie
+use Rattle.figures_map.proofs.tables.run.Statement.{statement}
+use Rattle.figures_map.proofs.tables.run.Tie as tie
 
 abbrev Inv-loop : tie.InvT-loop
 Inv-loop name about table at₀ run₀ differ₀ at run differ = (at ≤ length table) × ((run ≤ at) × (differ ≤ run))

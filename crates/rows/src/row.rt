@@ -1,36 +1,10 @@
-// Tables with rows of several lengths. A row starts with the count of its numbers.
-use crate::builds;
-use crate::maps;
-use crate::report;
+// A row and its numbers.
 use fixed::Fixed;
 ghost use Prim.Native.Nat.{_≤_, _<_};
 ghost use lib.ListN.{length};
 
-// What the rows of a table are about.
-pub enum Rows {
-    Maps,
-    Builds,
-}
-
-// Runs a table.
-pub fn run(name: &[u8], about: Rows, table: &[i32]) {
-    let mut at = 0;
-    let mut run = 0;
-    let mut differ = 0;
-    while at < table.len() {
-        let end = end_of_row(table, at);
-        if !agrees(about, &table[at..end]) {
-            report::row_differs(name, run);
-            differ += 1;
-        }
-        run += 1;
-        at = end;
-    }
-    report::counts(name, run, differ);
-}
-
 // Where the row at `at` ends, within the table. A row has at least its count.
-fn end_of_row(table: &[i32], at: usize) -> usize
+pub fn end_of_row(table: &[i32], at: usize) -> usize
     requires { ⌜ at < length (now table) ⌝ }
     ensures { λ r. ⌜ (at < r) × (r ≤ length (now (table .entry))) ⌝ }
 {
@@ -39,13 +13,6 @@ fn end_of_row(table: &[i32], at: usize) -> usize
         return at + 1;
     }
     at + n
-}
-
-fn agrees(about: Rows, row: &[i32]) -> bool {
-    match about {
-        Rows::Maps => maps::map_agrees(row),
-        Rows::Builds => builds::build_agrees(row),
-    }
 }
 
 // A number of the row, or 0 past its end.
