@@ -59,7 +59,7 @@ end-inside bytes Clear e = omega arith
 end-inside bytes Close e = omega arith
 
 -- what writes nothing leaves the pen as it is
-mark-still : (st : HintState) (h : Hints) (pen : Pen) (s : List ℕ) (from : ℕ) (m : Marking) → strokeOf st h pen (markCall s from m) ≡ still pen
+pub mark-still : (st : HintState) (h : Hints) (pen : Pen) (s : List ℕ) (from : ℕ) (m : Marking) → strokeOf st h pen (markCall s from m) ≡ still pen
 mark-still st h pen s from Bad = refl
 mark-still st h pen s from (Stem min max) = refl
 mark-still st h pen s from (Mask start len) = refl
@@ -88,7 +88,7 @@ module _ (st : HintState) where
   ready-hints h Finish w = cc
 
   -- a stroke goes by the map that its call leaves
-  stroke-by : (h : Hints) (pen : Pen) (path : Path) → strokeOf st h pen (pathCall path) ≡ strokeBy (hintsOf st h (pathCall path) .map) (st .scale) pen path
+  pub stroke-by : (h : Hints) (pen : Pen) (path : Path) → strokeOf st h pen (pathCall path) ≡ strokeBy (hintsOf st h (pathCall path) .map) (st .scale) pen path
   stroke-by h pen (Move p) = refl
   stroke-by h pen (Line p) = refl
   stroke-by h pen (Curve p q r) = refl

@@ -122,3 +122,13 @@ not-refused a e = is-ok a (eqb-true (numberOf a) 0 (not-false (eqb (numberOf a) 
 
 pub is-refused : (a : Answer) → refuses a ≡ true → 0 < numberOf a
 is-refused a e = omega (arith, eqb-false (numberOf a) 0 (not-true (eqb (numberOf a) 0) e))
+
+-- where two lists give Ok, both do
+pub both-ok : (rs qs : List Row) → Refusing rs → firstOf (rs ++ qs) ≡ Ok → (firstOf rs ≡ Ok) × (firstOf qs ≡ Ok)
+both-ok rs qs h e =
+    let o = by (refuses (firstOf rs)) refl in
+    (o, sym (onward rs qs h o) ∙ e)
+  where
+    by : (b : Bool) → refuses (firstOf rs) ≡ b → firstOf rs ≡ Ok
+    by true r = sym (found rs qs (is-refused (firstOf rs) r)) ∙ e
+    by false r = not-refused (firstOf rs) r

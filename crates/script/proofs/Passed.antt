@@ -1,0 +1,68 @@
+-- What a script that passes all tests has. Assumes nothing.
+use mathlib.Core.Path.{_≡_, refl, ap}
+use mathlib.Core.Bool.{Bool, true, false}
+use mathlib.Core.List.{List, _++_}
+use Prim.Native.Nat.{ℕ, _*_}
+use native.Mathlib.Omega.{arith}
+use lib.IntN.{ℤ}
+use lib.ListN.{length, drop, length-drop}
+use Rattle.fixed.specs.declared.Fixed.{Fixed}
+use Rattle.zones.specs.State.{emBox, stateBy, stateOf}
+use Rattle.zones.proofs.Keep.{state-count}
+use Rattle.drawing.specs.Open.{newDrawing}
+use Rattle.words.specs.declared.answer.Answer.the-variants.{Ok}
+use Rattle.words.specs.Words.{rawAt, numberAt}
+use Rattle.words.specs.Answers.{firstOf}
+use Rattle.words.proofs.Rows.{both-ok}
+use Rattle.header.specs.Header.{headerRows}
+use Rattle.header.specs.Params.{paramRows, paramsOf, Whole}
+use Rattle.header.proofs.Fine.{Fine, fine, whole, counted, header-refusing, params-refusing}
+use Rattle.commands.specs.Faults.{commandRows}
+use Rattle.run.specs.Room.{fitted}
+use Rattle.run.specs.Run.{stepsOf, outcomeOf, ranOf, Runnable}
+use Rattle.script.specs.Script.{commandsIn, checkRows, zonesOf, stepsIn}
+
+pub record Passed (s : List ℕ) : Type 0 where
+  pub header : firstOf (headerRows s) ≡ Ok
+  pub params : firstOf (paramRows s) ≡ Ok
+  pub commands : firstOf (commandRows (rawAt s 7) (commandsIn s)) ≡ Ok
+  pub fine : Fine s
+  pub whole : Whole s
+
+pub passed : (s : List ℕ) → firstOf (checkRows s) ≡ Ok → Passed s
+unfolding checkRows
+passed s e =
+    let h = both-ok (headerRows s) (paramRows s ++ commandRows (rawAt s 7) (commandsIn s)) (header-refusing s) e in
+    let p = both-ok (paramRows s) (commandRows (rawAt s 7) (commandsIn s)) (params-refusing s) (h .1) in
+    let f = fine s (h .0) in
+    record { header = h .0; params = p .0; commands = p .1; fine = f; whole = whole s f (p .0) }
+
+-- zones keep the scale that they are made at
+zones-scale : (s : List ℕ) → zonesOf s .scale ≡ numberAt s 1
+unfolding zonesOf stateOf
+zones-scale s = go (emBox (paramsOf s))
+  where
+    go : (em : Bool) → stateBy em (paramsOf s) (numberAt s 1) .scale ≡ numberAt s 1
+    go true = refl
+    go false = refl
+
+-- the commands of such a script can be run
+pub runnable : (s : List ℕ) → Passed s → Runnable (zonesOf s) s (drop (4 * rawAt s 4) s) (rawAt s 4) (rawAt s 5) (4 * rawAt s 6)
+unfolding zonesOf
+runnable s p =
+    let f = p .fine in
+    record {
+      zones = state-count (paramsOf s) (numberAt s 1) (counted s (p .whole) .blues);
+      there = omega (arith, length-drop (4 * rawAt s 4) s, f .ends);
+      short = omega (arith, f .ends, f .short);
+      start = omega (arith, f .ends, f .short);
+      bytes = rawAt s 7;
+      few = omega (arith, f .bytes, f .short);
+      inside = f .bytes;
+      faultless = p .commands;
+    }
+
+-- and their run is that of the script
+pub ran : (s : List ℕ) (out : List ℤ) → ranOf (zonesOf s) s (4 * rawAt s 6) (commandsIn s) out ≡ outcomeOf (fitted (length out) (stepsIn s)) out
+unfolding ranOf stepsIn
+ran s out = ap (λ (x : Fixed). outcomeOf (fitted (length out) (stepsOf (zonesOf s) s (4 * rawAt s 6) (newDrawing x) (commandsIn s))) out) (zones-scale s)
