@@ -104,7 +104,9 @@ FULL = script_of(
 )
 # Em-box hints.
 BOX = script_of(
-    font(EM_BOX, group=1), 3000, commands_of((STEM, -119, -60), (STEM, 820, 879), (MOVE, 0, -119), (MOVE, 0, 860), (FINISH,))
+    font(EM_BOX, group=1),
+    3000,
+    commands_of((STEM, -119, -60), (STEM, 820, 879), (MOVE, 0, -119), (MOVE, 0, 860), (FINISH,)),
 )
 # Each kind that has operands, last. Every mask has no bytes.
 LAST = {
@@ -178,7 +180,7 @@ def place_of(script):
 
 def row_of(script, changes, room, number, place, first, after):
     assert len(changes) <= 16 and room <= len(LENT) - 16
-    flat = [number for change in changes for number in change]
+    flat = [value for change in changes for value in change]
     return counted([place_of(script), len(script), len(changes), *flat, room, number, place, first, *after])
 
 
@@ -204,9 +206,8 @@ def row(script, changes=(), room=AMPLE, expected=None):
 
 def whole():
     records = [1, 327680, 655360, 2, 983040, 655360, 4, 5]
-    for room in range(4):
-        yield room, NO_ROOM, 16, 0, []
-    for room in range(4, 7):
+    # Under 4 words the place is word 4's figure; from 4 on, the move's own. Both are 16.
+    for room in range(7):
         yield room, NO_ROOM, 16, 0, []
     for room in range(7, 10):
         yield room, NO_ROOM, 22, 4, records[:3]
@@ -454,6 +455,9 @@ def glyphs():
     for script in [LETTER, FULL]:
         for place, values in {8: [0, 9000, HIGH], 9: [0, LOW], 10: [0, 30 * ONE], 11: [1, 2]}.items():
             yield from [(script, [word(place, value)]) for value in values]
+    # The mask after the move is another part of the mask bytes, up to all of them.
+    for start, count in [(0, 0), (1, 0), (0, 1), (0, 2), (0, 12), (1, 12), (1, 13), (0, 14)]:
+        yield MASKED, [word(29, start), word(30, count)]
     # A clear for a close, and stems for moves.
     for place in LETTER_KINDS:
         if LETTER[place] == CLOSE:

@@ -34,7 +34,7 @@ fn change(bytes: &mut [u8; 65600], length: usize, row: &[i32], at: usize) -> usi
     let what = rows::number(row, at);
     let place = rows::count(row, at + 1, 65600);
     if what == 0 {
-        put_word(bytes, place, rows::number(row, at + 2));
+        put_word(bytes, place, bits(row, at + 2));
         return length;
     }
     if what == 1 {
@@ -59,17 +59,16 @@ fn put_words(
     let mut next = at;
     let mut i = first;
     while i < end {
-        put_word(bytes, i, rows::number(numbers, next));
+        put_word(bytes, i, bits(numbers, next));
         next += step;
         i += 1;
     }
 }
 
 // The least byte of a word stands first.
-fn put_word(bytes: &mut [u8; 65600], at: usize, value: i32)
+fn put_word(bytes: &mut [u8; 65600], at: usize, n: usize)
     requires { ⌜ at ≤ 65600 ⌝ }
 {
-    let n = bits(value);
     put_byte(bytes, 4 * at, n);
     put_byte(bytes, 4 * at + 1, n / 256);
     put_byte(bytes, 4 * at + 2, n / 65536);
@@ -83,20 +82,12 @@ fn put_byte(bytes: &mut [u8; 65600], at: usize, n: usize) {
     }
 }
 
-// The bits of a signed word.
-fn bits(value: i32) -> usize {
-    if value < 0 {
-        return 4294967295 - whole(!value);
-    }
-    whole(value)
-}
-
-// A number without a sign, 0 for one below 0.
-fn whole(n: i32) -> usize
-    ensures { λ r. ⌜ r ≤ 2147483648 ⌝ }
-{
+// The 32 bits of a number of a row. Those of one below 0 are what its complement leaves of them all.
+fn bits(row: &[i32], at: usize) -> usize {
+    let n = rows::number(row, at);
     if n < 0 {
-        return 0;
+        let complement = [!n];
+        return 4294967295 - rows::count(&complement, 0, 2147483647);
     }
-    n as usize
+    rows::count(row, at, 2147483647)
 }
