@@ -9,9 +9,9 @@ use lib.Seq.{take-all}
 use lib.Dec.{ltb, leb}
 use borrow.Author.Tests.{lt-ltb, le-ltb, ltb-false}
 use Rattle.words.specs.declared.answer.Answer.{Answer}
-use Rattle.words.specs.declared.answer.Answer.the-variants.{Ok, BadCommand, BadMask}
-use Rattle.words.specs.Answers.{numberOf, Row, pickAnswer, firstOf}
-use Rattle.words.proofs.Rows.{found, is-ok, Refusing}
+use Rattle.words.specs.declared.answer.Answer.the-variants.{Ok}
+use Rattle.words.specs.Answers.{numberOf, Row, firstOf}
+use Rattle.words.proofs.Rows.{Refusing, none-holds, found, onward, both-ok, is-ok}
 use Rattle.commands.specs.declared.reading.Command.{Command}
 use Rattle.commands.specs.Commands.{pick, nextAt, readAt, Placed, commandsFrom, commandsOf}
 use Rattle.commands.specs.Faults.{maskPast, isBad, hasBadMask, faultRows, commandRows}
@@ -85,6 +85,14 @@ module _ (b : ℕ) (s : List ℕ) (n : ℕ) where
   rows-none bytes i h = ap (commandRows bytes) (none (n - i) i h)
 
 -- every test refuses
+faults-refusing : (bytes place : ℕ) (c : Command) → Refusing (faultRows bytes place c)
+faults-refusing bytes place c zero h = omega arith
+faults-refusing bytes place c (suc zero) h = omega arith
+faults-refusing bytes place c (suc (suc j)) h = absurd (no h)
+  where
+    no : suc (suc j) < 2 → ⊥
+    no h = omega arith
+
 pub rows-refusing : (bytes : ℕ) (cs : List Placed) → Refusing (commandRows bytes cs)
 unfolding commandRows
 rows-refusing bytes [] j h = absurd (no h)
@@ -97,20 +105,10 @@ rows-refusing bytes (c ∷ cs) (suc (suc j)) h = rows-refusing bytes cs j (omega
 
 -- where the answer is Ok, a command is neither bad nor has a bad mask, and the tests behind it answer Ok
 passes : (bytes place : ℕ) (c : Command) (rs : List Row) → firstOf (faultRows bytes place c ++ rs) ≡ Ok → (isBad c ≡ false) × ((hasBadMask bytes c ≡ false) × (firstOf rs ≡ Ok))
-unfolding firstOf
-passes bytes place c rs e = by (isBad c) (hasBadMask bytes c) e
-  where
-    by : (u v : Bool) → pickAnswer u (BadCommand place) (pickAnswer v (BadMask place) (firstOf rs)) ≡ Ok → (u ≡ false) × ((v ≡ false) × (firstOf rs ≡ Ok))
-    by true v e = absurd (let z : _≡_ {A = ℕ} 4 0 = ap numberOf e in omega arith)
-    by false true e = absurd (let z : _≡_ {A = ℕ} 5 0 = ap numberOf e in omega arith)
-    by false false e = (refl, (refl, e))
-
--- behind a command with no fault the other tests give the answer
-behind : (bytes place : ℕ) (c : Command) (rs : List Row) → firstOf (faultRows bytes place c) ≡ Ok → firstOf (faultRows bytes place c ++ rs) ≡ firstOf rs
-unfolding firstOf
-behind bytes place c rs e =
-    let p = passes bytes place c [] e in
-    rw (p .0, p .1 .0)
+passes bytes place c rs e =
+    let b = both-ok (faultRows bytes place c) rs (faults-refusing bytes place c) e in
+    let f = none-holds (faultRows bytes place c) (faults-refusing bytes place c) (b .0) in
+    (f 0, (f 1, b .1))
 
 -- at a command that is there
 module _ (b : ℕ) (s : List ℕ) (n bytes i : ℕ) (h : i < n) where
@@ -123,8 +121,8 @@ module _ (b : ℕ) (s : List ℕ) (n bytes i : ℕ) (h : i < n) where
 
   -- and where it has none the commands behind it give it
   pub fault-behind : (f : Answer) → f ≡ firstOf (faultRows bytes (b + i) (readAt s n i .command)) → numberOf f ≡ 0 → firstOf (commandRows bytes (commandsFrom (n - i) b s n i)) ≡ firstOf (commandRows bytes (commandsFrom (n - nextAt s i) b s n (nextAt s i)))
-  fault-behind f g k = ap firstOf (rows-first b s n bytes i h) ∙ behind bytes (b + i) (readAt s n i .command) _ (sym g ∙ is-ok f k)
+  fault-behind f g k = ap firstOf (rows-first b s n bytes i h) ∙ onward _ _ (faults-refusing bytes (b + i) (readAt s n i .command)) (sym g ∙ is-ok f k)
 
--- the rest of a slice, from byte i on
-pub rest : (s : List ℕ) (i : ℕ) → take (length s - i) (drop i s) ≡ drop i s
-rest s i = take-all (length s - i) (drop i s) (simp length-drop (omega arith))
+-- the part of a slice that is lent from i on is the rest of it
+pub lent : {A : Type 0} (s : List A) (i : ℕ) → take (length s - i) (drop i s) ≡ drop i s
+lent s i = take-all (length s - i) (drop i s) (simp length-drop (omega arith))

@@ -3,11 +3,9 @@ use mathlib.Core.Bool.{Bool, true, false, _||_}
 use mathlib.Core.List.{List, [], _∷_, _++_}
 use Prim.Native.Nat.{ℕ, _+_, _^_}
 use lib.Dec.{ltb, leb}
-use Rattle.drawing.specs.declared.path.Path.{Path}
 use Rattle.words.specs.declared.answer.Answer.{Answer}
 use Rattle.words.specs.declared.answer.Answer.the-variants.{Ok, BadCommand, BadMask}
 use Rattle.words.specs.Answers.{Row, row, pickAnswer}
-use Rattle.commands.specs.declared.reading.Marking.{Marking}
 use Rattle.commands.specs.declared.reading.Marking.the-variants.{Bad, Stem, Mask, Counter, Clear, Close}
 use Rattle.commands.specs.declared.reading.Command.{Command}
 use Rattle.commands.specs.declared.reading.Command.the-variants.{Mark, Draw}

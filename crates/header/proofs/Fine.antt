@@ -16,10 +16,10 @@ use Rattle.zones.specs.State.{Counted}
 use Rattle.words.specs.declared.answer.Answer.the-variants.{Ok}
 use Rattle.words.specs.Words.{rawAt, signed, numberAt}
 use Rattle.words.specs.Answers.{firstOf}
-use Rattle.words.proofs.Rows.{Refusing}
+use Rattle.words.proofs.Rows.{Refusing, none-holds}
 use Rattle.header.specs.Header.{differs, negative, padded, headerRows}
 use Rattle.header.specs.Params.{pairsIn, paramRows, bluesAt, paramsOf, Whole}
-use Rattle.header.proofs.Tests.{refuses, refusing, none, both-false, alike, long}
+use Rattle.header.proofs.Tests.{refusing, both-false, alike, long}
 
 -- what a script with a fine header has
 pub record Fine (s : List ℕ) : Type 0 where
@@ -33,47 +33,41 @@ pub record Fine (s : List ℕ) : Type 0 where
   pub bytes : 4 * rawAt s 6 + rawAt s 7 ≤ length s
 
 module _ (s : List ℕ) where
-  header-refuses : refuses (headerRows s) ≡ true
-  unfolding headerRows
-  header-refuses = refl
-
-  params-refuse : refuses (paramRows s) ≡ true
-  unfolding paramRows
-  params-refuse = refl
-
   -- every test refuses
   pub header-refusing : Refusing (headerRows s)
-  header-refusing = refusing (headerRows s) header-refuses
+  unfolding headerRows
+  header-refusing = refusing (headerRows s) refl
 
   pub params-refusing : Refusing (paramRows s)
-  params-refusing = refusing (paramRows s) params-refuse
+  unfolding paramRows
+  params-refusing = refusing (paramRows s) refl
 
   pub fine : firstOf (headerRows s) ≡ Ok → Fine s
   unfolding headerRows
   fine e =
-      let f = none (headerRows s) header-refuses e in
-      let n = long (length s) (f 0 (omega arith)) in
-      let p3 = both-false (ltb (rawAt s 3) 8) (ltb 64 (rawAt s 3)) (f 3 (omega arith)) in
+      let f = none-holds (headerRows s) header-refusing e in
+      let n = long (length s) (f 0) in
+      let p3 = both-false (ltb (rawAt s 3) 8) (ltb 64 (rawAt s 3)) (f 3) in
       let least = ltb-false (rawAt s 3) 8 (p3 .0) in
       let most = ltb-false 64 (rawAt s 3) (p3 .1) in
-      let commands = alike (rawAt s 4) (8 + rawAt s 3) (f 4 (omega arith)) in
-      let p5 = both-false (negative (rawAt s 5)) (ltb (length s / 4) (rawAt s 4 + rawAt s 5)) (f 5 (omega arith)) in
+      let commands = alike (rawAt s 4) (8 + rawAt s 3) (f 4) in
+      let p5 = both-false (negative (rawAt s 5)) (ltb (length s / 4) (rawAt s 4 + rawAt s 5)) (f 5) in
       let ends = ltb-false (length s / 4) (rawAt s 4 + rawAt s 5) (p5 .1) in
-      let masks = alike (rawAt s 6) (rawAt s 4 + rawAt s 5) (f 6 (omega arith)) in
-      let p7 = both-false (negative (rawAt s 7)) (differs (rawAt s 6 + padded (rawAt s 7)) (length s / 4)) (f 7 (omega arith)) in
+      let masks = alike (rawAt s 6) (rawAt s 4 + rawAt s 5) (f 6) in
+      let p7 = both-false (negative (rawAt s 7)) (differs (rawAt s 6 + padded (rawAt s 7)) (length s / 4)) (f 7) in
       let bytes = alike (rawAt s 6 + padded (rawAt s 7)) (length s / 4) (p7 .1) in
       record { enough = omega arith; short = n .1; least = least; most = most; commands = commands; ends = omega arith; masks = masks; bytes = omega arith }
 
   pub whole : Fine s → firstOf (paramRows s) ≡ Ok → Whole s
   unfolding paramRows
   whole h e =
-      let f = none (paramRows s) params-refuse e in
-      let pairs = alike (rawAt s 3) (8 + 2 * pairsIn s) (f 5 (omega arith)) in
+      let f = none-holds (paramRows s) params-refusing e in
+      let pairs = alike (rawAt s 3) (8 + 2 * pairsIn s) (f 5) in
       record {
-        blues = ltb-false 7 (rawAt s 12) (f 1 (omega arith));
-        others = ltb-false 7 (rawAt s 13) (f 2 (omega arith));
-        family = ltb-false 7 (rawAt s 14) (f 3 (omega arith));
-        familyOthers = ltb-false 7 (rawAt s 15) (f 4 (omega arith));
+        blues = ltb-false 7 (rawAt s 12) (f 1);
+        others = ltb-false 7 (rawAt s 13) (f 2);
+        family = ltb-false 7 (rawAt s 14) (f 3);
+        familyOthers = ltb-false 7 (rawAt s 15) (f 4);
         there = omega arith;
       }
 
@@ -84,7 +78,7 @@ module _ (s : List ℕ) where
   pub scaled : firstOf (paramRows s) ≡ Ok → pos 0 <ℤ numberAt s 1 .bits
   unfolding paramRows
   scaled e =
-      let t : lessF (numberAt s 1) (fromBits (pos 1)) ≡ false = none (paramRows s) params-refuse e 0 (omega arith) in
+      let t : lessF (numberAt s 1) (fromBits (pos 1)) ≡ false = none-holds (paramRows s) params-refusing e 0 in
       omega heights
 
 -- ---- a word is negative exactly if it is 2^31 or more as a natural

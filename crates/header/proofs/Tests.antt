@@ -5,9 +5,8 @@ use mathlib.Core.List.{List, [], _∷_}
 use Prim.Native.Nat.{ℕ, zero, suc, _%_, _^_, _≤_, _<_}
 use native.Mathlib.Omega.{arith}
 use lib.Dec.{eqb, ltb}
-use lib.ListN.{length, drop}
+use lib.ListN.{drop}
 use borrow.Author.Tests.{lt-ltb, le-ltb, lt-leb, eq-eqb, ne-eqb, ltb-true, ltb-false, eqb-true, not-false}
-use Rattle.words.specs.declared.answer.Answer.the-variants.{Ok}
 use Rattle.words.specs.Answers.{numberOf, Row, firstOf, rowAt}
 use Rattle.words.proofs.Rows.{hit, skip, Refusing}
 use Rattle.header.specs.Header.{differs, negative, outside, lengthBad}
@@ -23,39 +22,19 @@ pub record Past (rs : List Row) (k : ℕ) : Type 0 where
 pub pass : {rs : List Row} (k : ℕ) → Past rs k → rowAt rs k .fault ≡ false → Past rs (suc k)
 pass {rs} k p e = record { rest = p .rest ∙ skip rs k e }
 
-within : (rs : List Row) (k : ℕ) → rowAt rs k .fault ≡ true → k < length rs
-within [] k e = absurd (true≢false (sym e))
-within (r ∷ rs) zero e = omega arith
-within (r ∷ rs) (suc k) e = omega (arith, within rs k e)
-
 -- and the next one does
 pub stop : {rs : List Row} (k : ℕ) → Past rs k → rowAt rs k .fault ≡ true → rowAt rs k .said ≡ firstOf rs
-stop {rs} k p e = sym (p .rest ∙ hit rs k (within rs k e) e)
+stop {rs} k p e = sym (p .rest ∙ hit rs k e)
 
--- ---- where the answer is Ok, no test holds
+-- ---- tests that all refuse, by computation
 abbrev pub refuses : List Row → Bool
 refuses [] = true
 refuses (r ∷ rs) = ltb 0 (numberOf (r .said)) && refuses rs
 
-pub refusing : (rs : List Row) → refuses rs ≡ true → (k : ℕ) → k < length rs → 0 < numberOf (rowAt rs k .said)
+pub refusing : (rs : List Row) → refuses rs ≡ true → Refusing rs
 refusing [] h k l = absurd (omega arith)
 refusing (r ∷ rs) h zero l = ltb-true 0 (numberOf (r .said)) (both-true (ltb 0 (numberOf (r .said))) (refuses rs) h .0)
 refusing (r ∷ rs) h (suc k) l = refusing rs (both-true (ltb 0 (numberOf (r .said))) (refuses rs) h .1) k (omega arith)
-
-module _ (rs : List Row) (h : refuses rs ≡ true) (e : firstOf rs ≡ Ok) where
-  clear : (k : ℕ) → k < length rs → Past rs k → rowAt rs k .fault ≡ false
-  clear k l p = go (rowAt rs k .fault) refl
-    where
-      go : (b : Bool) → rowAt rs k .fault ≡ b → b ≡ false
-      go true f = absurd (omega (arith, refusing rs h k l, ap numberOf (stop k p f ∙ e)))
-      go false f = refl
-
-  reached : (k : ℕ) → k ≤ length rs → Past rs k
-  reached zero l = record { rest = refl }
-  reached (suc k) l = pass k (reached k (omega arith)) (clear k (omega arith) (reached k (omega arith)))
-
-  pub none : (k : ℕ) → k < length rs → rowAt rs k .fault ≡ false
-  none k l = clear k l (reached k (omega arith))
 
 -- ---- either of two tests
 second : (a b : Bool) → b ≡ true → (a || b) ≡ true

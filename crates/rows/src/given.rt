@@ -1,13 +1,25 @@
-// Parameters and masks in a row.
+// Parameters, masks and kinds of edges in a row.
 use crate::row::count;
 use crate::row::fixed;
 use crate::row::number;
+use fixed::Fixed;
 use stems::HintMask;
+use stems::Kind;
 use zones::Blue;
 use zones::Blues;
 use zones::HintParams;
+use zones::HintState;
 ghost use Prim.Native.Nat.{_+_, _*_, _≤_};
 ghost use Rattle.rows.specs.Given.{Within};
+
+// The zones of the row's scale and parameters. No row has a scale below 1, where this takes 1.
+pub fn state(row: &[i32]) -> HintState {
+    let scale = number(row, 1);
+    if 0 < scale {
+        return HintState::new(params(row, 7), Fixed { bits: scale });
+    }
+    HintState::new(params(row, 7), Fixed { bits: 1 })
+}
 
 // From place 2 on: blue scale, shift, fuzz and group; the counts of blues, other blues, family blues and family
 // other blues, each at most so many; the pairs.
@@ -80,4 +92,15 @@ pub fn mask(row: &[i32], at: usize) -> HintMask
         bytes[i] = count(row, at + 1 + i, 255) as u8;
     }
     HintMask::new(&bytes[0..n])
+}
+
+// The number of a kind of edge.
+pub fn kind_number(kind: Kind) -> i32 {
+    match kind {
+        Kind::Absent => 0,
+        Kind::GhostBottom => 1,
+        Kind::GhostTop => 2,
+        Kind::PairBottom => 3,
+        Kind::PairTop => 4,
+    }
 }

@@ -5,8 +5,10 @@ mod report;
 mod row;
 
 pub use given::after_pairs;
+pub use given::kind_number;
 pub use given::mask;
 pub use given::params;
+pub use given::state;
 pub use report::counts;
 pub use report::row_differs;
 pub use row::count;

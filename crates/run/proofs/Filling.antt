@@ -2,23 +2,19 @@
 use mathlib.Core.Path.{_≡_, refl, sym, ap, _∙_}
 use mathlib.Core.Bool.{Bool, true, false}
 use mathlib.Core.List.{List, [], _∷_, _++_, append-assoc, append-nil}
-use Prim.Native.Nat.{ℕ, _+_, _-_, _≤_, _<_}
+use Prim.Native.Nat.{ℕ, _+_, _-_, _≤_}
 use native.Mathlib.Nat.{zero-add}
 use native.Mathlib.Omega.{arith}
 use lib.Dec.{leb}
 use lib.IntN.{ℤ}
-use lib.ListN.{length, take, drop, length-append, length-drop, length-take, take-append-drop, drop-of-length-le}
-use lib.Seq.{take-all, length-take-le, take-append-seam, drop-drop, take-at, drop-at}
+use lib.ListN.{length, take, drop, length-append, length-drop, take-append-drop, drop-of-length-le}
+use lib.Seq.{length-take-le, drop-drop, take-at, drop-at}
 use borrow.Rule.Slice.PartMut.{putMid}
 use borrow.Author.Tests.{leb-true}
 use Rattle.words.specs.declared.answer.Answer.{Answer}
 use Rattle.words.specs.declared.answer.Answer.the-variants.{Ok, NoRoom}
 use Rattle.pen.specs.Records.{written, fits}
 use Rattle.run.specs.Room.{Step, Fitted, fitBy, fitted}
-
--- the part that is lent is the rest of the list
-pub lent : {A : Type 0} (xs : List A) (a : ℕ) → take (length xs - a) (drop a xs) ≡ drop a xs
-lent xs a = take-all (length xs - a) (drop a xs) (simp length-drop (omega arith))
 
 -- what was lent comes home
 pub back : {A : Type 0} (a : ℕ) (xs ys : List A) → putMid a (length xs - a) xs ys ≡ take a xs ++ ys
@@ -90,7 +86,7 @@ module _ (next : ℕ) (ws out : List ℤ) (h : next ≤ length out) (f : length 
       ap (λ (l : List ℤ). take next out ++ l) (written-both ws vs (drop next out)) ∙
       sym (append-assoc (take next out) ws (written vs (drop (length ws) (drop next out)))) ∙
       sym (ap (λ (l : List ℤ). l ++ written vs (drop (next + length ws) (placed next ws out))) placed-take ∙
-        ap (λ (l : List ℤ). front ++ written vs l) placed-drop)
+      ap (λ (l : List ℤ). front ++ written vs l) placed-drop)
 
 -- a list with nothing placed in it
 pub placed-none : (next : ℕ) (out : List ℤ) → placed next [] out ≡ out

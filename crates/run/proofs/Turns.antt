@@ -1,17 +1,17 @@
 -- Laws of a turn of a run: what each kind of command makes of the drawing, the words and the commands that are left. Assumes nothing.
 use mathlib.Core.Path.{_≡_, refl, sym, ap, _∙_}
 use mathlib.Core.Bool.{Bool, true, false}
-use mathlib.Core.List.{List, [], _∷_, _++_}
+use mathlib.Core.List.{List, _∷_, _++_}
 use Prim.Native.Nat.{ℕ, _+_, _-_, _≤_, _<_}
 use native.Mathlib.Nat.{add-zero}
 use native.Mathlib.Omega.{arith}
 use lib.IntN.{ℤ}
-use lib.ListN.{length, take, drop, take-append-drop}
+use lib.ListN.{length, take, drop}
 use borrow.Author.Tests.{le-leb}
 use Rattle.zones.specs.declared.state.HintState.{HintState}
 use Rattle.pen.specs.declared.strokes.Pen.{Pen}
 use Rattle.pen.specs.declared.strokes.Stroke.{Stroke}
-use Rattle.pen.specs.Records.{wordsOf, written, fits}
+use Rattle.pen.specs.Records.{wordsOf, fits}
 use Rattle.pen.specs.Strokes.{newPen}
 use Rattle.drawing.specs.declared.hints.Hints.{Hints}
 use Rattle.drawing.specs.declared.path.Path.{Path}
@@ -19,7 +19,7 @@ use Rattle.drawing.specs.declared.path.Path.the-variants.{Move, Line, Curve, Fi
 use Rattle.drawing.specs.declared.path.Drawn.{Drawn}
 use Rattle.drawing.specs.declared.calls.Drawing.{Drawing}
 use Rattle.drawing.specs.Hints.{Kept, newHints, readyOf}
-use Rattle.drawing.specs.Calls.{Call, stem, hintMask, counterMask, clear, move, line, curve, close, finish, callOf as pathCall, hasPoint, hintsOf, still, strokeBy, strokeOf, nextOf, wordsFor}
+use Rattle.drawing.specs.Calls.{callOf as pathCall, hasPoint, hintsOf, still, strokeBy, strokeOf, nextOf, wordsFor}
 use Rattle.drawing.specs.Open.{newDrawing}
 use Rattle.drawing.proofs.Kept.{kept-new, kept-stem, kept-mask, kept-counter, kept-ready}
 use Rattle.drawing.proofs.Steps.{ready-idle, ready-twice, DrewWords, DrewNothing}

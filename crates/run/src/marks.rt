@@ -28,7 +28,13 @@ fn mask_at(script: &[u8], from: usize, start: u32, len: u32) -> HintMask
 }
 
 // What such a command makes of the hints.
-pub(crate) fn marked(state: HintState, hints: Hints, script: &[u8], from: usize, marking: Marking) -> Hints
+pub(crate) fn marked(
+    state: HintState,
+    hints: Hints,
+    script: &[u8],
+    from: usize,
+    marking: Marking,
+) -> Hints
     requires { ⌜ Kept state hints × (from + maskEnd marking ≤ length (now script)) ⌝ }
     ensures { λ r. ⌜ r ≡ hintsOf state hints (markCall (now (script .entry)) from marking) ⌝ }
 {

@@ -9,10 +9,8 @@ use drawing::draw;
 use pen::Pen;
 use zones::HintState;
 ghost use mathlib.Core.Path.{_≡_};
-ghost use Prim.Native.Nat.{_+_, _*_, _≤_};
-ghost use lib.ListN.{length};
 ghost use Rattle.commands.specs.Commands.{commandsOf};
-ghost use Rattle.run.specs.Run.{wantsMap, stepsOf, ranOf, Ended, Runnable};
+ghost use Rattle.run.specs.Run.{wantsMap, ranOf, Ended, Runnable};
 
 // How a run ended: the answer, and the record words that were written.
 pub struct Ran {

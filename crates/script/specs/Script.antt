@@ -1,7 +1,7 @@
 -- A whole script (01, "The script"): all tests in 01's order, then the run, and what is left in every output word.
 use mathlib.Core.Path.{_≡_}
 use mathlib.Core.Bool.{Bool, true, false}
-use mathlib.Core.List.{List, [], _∷_, _++_}
+use mathlib.Core.List.{List, _∷_, _++_}
 use Prim.Native.Nat.{ℕ, _-_, _*_}
 use lib.Dec.{ltb}
 use lib.IntN.{ℤ, pos}

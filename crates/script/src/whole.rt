@@ -37,7 +37,15 @@ fn run_commands(script: &[u8], out: &mut [i32]) -> Ran
     let count = natural(script, 5);
     let masks = natural(script, 6);
     let at = 4 * first;
-    run(script, &script[at..], first, count, 4 * masks, zones_of(script), out)
+    run(
+        script,
+        &script[at..],
+        first,
+        count,
+        4 * masks,
+        zones_of(script),
+        out,
+    )
 }
 
 // The first four words of a result.

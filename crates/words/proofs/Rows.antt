@@ -1,6 +1,6 @@
 -- Laws of a list of tests: the first that holds gives the answer. Assumes nothing.
 use mathlib.Core.Path.{_≡_, refl, sym, ap, _∙_}
-use mathlib.Core.Bool.{Bool, true, false}
+use mathlib.Core.Bool.{Bool, true, false, true≢false}
 use mathlib.Core.List.{List, [], _∷_, _++_}
 use Prim.Native.Nat.{ℕ, zero, suc, _<_}
 use native.Mathlib.Omega.{arith}
@@ -12,14 +12,11 @@ use Rattle.words.specs.declared.answer.Answer.the-variants.{Ok, BadScrip
 use Rattle.words.specs.Answers.{numberOf, refuses, Row, pickAnswer, firstOf, rowAt, First}
 
 -- a test that holds, after those that do not, gives its refusal
-pub hit : (rs : List Row) (k : ℕ) → k < length rs → rowAt rs k .fault ≡ true → firstOf (drop k rs) ≡ rowAt rs k .said
+pub hit : (rs : List Row) (k : ℕ) → rowAt rs k .fault ≡ true → firstOf (drop k rs) ≡ rowAt rs k .said
 unfolding firstOf
-hit [] k h e = absurd (no h)
-  where
-    no : k < 0 → ⊥
-    no h = omega arith
-hit (r ∷ rs) zero h e = ap (λ (t : Bool). pickAnswer t (r .said) (firstOf rs)) e
-hit (r ∷ rs) (suc k) h e = hit rs k (omega arith) e
+hit [] k e = absurd (true≢false (sym e))
+hit (r ∷ rs) zero e = ap (λ (t : Bool). pickAnswer t (r .said) (firstOf rs)) e
+hit (r ∷ rs) (suc k) e = hit rs k e
 
 -- one that does not leaves the answer to those after it
 pub skip : (rs : List Row) (k : ℕ) → rowAt rs k .fault ≡ false → firstOf (drop k rs) ≡ firstOf (drop (suc k) rs)
@@ -74,11 +71,11 @@ first-given (r ∷ rs) a h e = by (r .fault) refl (λ q. first-given rs a h q)
 
 -- and wherever it is
 pub first-gives : (rs : List Row) (a : Answer) → First rs a → firstOf rs ≡ a
-first-gives rs a p = reach rs (p .place) (p .there) (p .before) ∙ hit rs (p .place) (p .there) (p .holds) ∙ p .says
+first-gives rs a p = reach (p .place) (p .before) ∙ hit rs (p .place) (p .holds) ∙ p .says
   where
-    reach : (rs : List Row) (k : ℕ) → k < length rs → ((j : ℕ) → j < k → rowAt rs j .fault ≡ false) → firstOf rs ≡ firstOf (drop k rs)
-    reach rs zero l f = refl
-    reach rs (suc k) l f = reach rs k (omega arith) (λ j h. f j (omega arith)) ∙ skip rs k (f k (omega arith))
+    reach : (k : ℕ) → ((j : ℕ) → j < k → rowAt rs j .fault ≡ false) → firstOf rs ≡ firstOf (drop k rs)
+    reach zero f = refl
+    reach (suc k) f = reach k (λ j h. f j (omega arith)) ∙ skip rs k (f k (omega arith))
 
 -- tests in two lists: a refusal of the first list stands
 pub found : (rs qs : List Row) → 0 < numberOf (firstOf rs) → firstOf (rs ++ qs) ≡ firstOf rs

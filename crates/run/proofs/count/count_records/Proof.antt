@@ -1,5 +1,5 @@
 -- `count_records` counts the records in the first words of an output: those counted, and those in the words from here on, are all of them. Assumes nothing.
-use mathlib.Core.Path.{_≡_, refl, sym, ap, _∙_}
+use mathlib.Core.Path.{_≡_, sym, ap, _∙_}
 use Prim.Native.Nat.{ℕ, suc, _+_, _-_, _≤_}
 use native.Mathlib.Omega.{arith}
 use lib.IntN.{pos}

@@ -1,5 +1,5 @@
 -- `marked` does what each command asks of the hints, by the contracts of its calls. Assumes nothing.
-use mathlib.Core.Path.{_≡_, sym, ap, _∙_}
+use mathlib.Core.Path.{sym, ap, _∙_}
 use native.Mathlib.Omega.{arith}
 use borrow.Author.Needs.{needs}
 use Rattle.stems.specs.declared.mask.HintMask.{HintMask}

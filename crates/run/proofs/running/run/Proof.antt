@@ -1,25 +1,25 @@
 -- `run` does the commands first to last. At each turn the commands from here on, over the hints and the pen, make of the words from the next free one
 -- what all commands make of all words; a turn takes a command, or makes the map that one wants. Assumes nothing.
-use mathlib.Core.Path.{_≡_, refl, sym, ap, _∙_}
-use Prim.Native.Nat.{ℕ, _+_, _-_, _*_, _≤_, _<_}
+use mathlib.Core.Path.{_≡_, sym, ap, _∙_}
+use Prim.Native.Nat.{_+_, _-_, _*_, _<_}
 use native.Mathlib.Omega.{arith}
 use lib.ListN.{length, drop, length-drop, take-append-drop}
 use borrow.Author.Tests.{leb-true}
 use Rattle.pen.specs.Records.{wordsOf}
 use borrow.Author.Needs.{needs}
 use borrow.Rule.Slice.PartMut.{putMid, same-len-mid}
-use mathlib.Core.Bool.{true, false}
+use mathlib.Core.Bool.{false}
 use Rattle.drawing.specs.declared.hints.Hints.{Hints}
 use Rattle.drawing.specs.declared.path.Path.{Path}
 use Rattle.drawing.specs.Calls.{strokeBy, Drew}
-use Rattle.drawing.proofs.Steps.{ready-valid, drew-wrote, drew-refused, DrewWords, DrewNothing}
+use Rattle.drawing.proofs.Steps.{ready-valid, drew-wrote, drew-refused}
 use Rattle.commands.specs.declared.reading.Read.{Read}
 use Rattle.commands.specs.declared.reading.Command.the-variants.{Mark, Draw}
 use Rattle.commands.specs.Commands.{readAt, nextAt}
-use Rattle.commands.proofs.Laws.{next-is}
-use Rattle.run.specs.Run.{wantsMap, Ended}
-use Rattle.run.proofs.Filling.{lent, back, Stopped}
-use Rattle.run.proofs.Turns.{Going, going, mask-there, turn-mark, turn-ready, turn-drew, turn-refused, turn-done, ended, unready, unready-one, wanted, allSteps}
+use Rattle.commands.proofs.Laws.{next-is, lent}
+use Rattle.run.specs.Run.{wantsMap}
+use Rattle.run.proofs.Filling.{back}
+use Rattle.run.proofs.Turns.{Going, going, mask-there, turn-mark, turn-ready, turn-drew, turn-refused, turn-done, ended, unready, unready-one, wanted}
 use Rattle.run.proofs.running.run.Statement.{statement}
 use Rattle.run.proofs.running.run.Tie as tie
 
@@ -105,20 +105,20 @@ enum-known-command : tie.Need-enum-known-command Inv-loop μ-loop
 enum-known-command c = search needs
 
 marked-requires : tie.Need-marked-requires Inv-loop μ-loop
-marked-requires c κs = 
+marked-requires c κs =
     let m = c .before in
     let l = mark-turn m in
     let a = begin l .args in
     (l .loop .inv .kept, mask-there (a .state) (a .script .now) (a .part .now) (a .first) (a .n) (a .from) (l .loop .inv) (m .before .before .before .loop-test .taken) (mark-is m))
 
 loop-less : tie.Need-loop-less Inv-loop μ-loop
-loop-less c = 
+loop-less c =
     let m = c .before .before in
     let r = m .before .before in
     omega (arith, moved r, r .before .loop-test .taken, unready-one (c .marked .result .map .«is_valid»))
 
 loop-again : tie.Need-loop-again Inv-loop μ-loop
-loop-again c = 
+loop-again c =
     let m = c .before .before in
     let r = m .before .before in
     let l = mark-turn m in
@@ -135,7 +135,7 @@ ready-requires : tie.Need-ready-requires Inv-loop μ-loop
 ready-requires c κs = c .before .before .before .before .before .before .before .before .loop .inv .kept
 
 loop-less-2 : tie.Need-loop-less-2 Inv-loop μ-loop
-loop-less-2 c = 
+loop-less-2 c =
     let w = c .before .before in
     let l = draw-turn w in
     let e = wanted (l .loop .hints .map .«is_valid») (path w) (sym (w .wants-map .ensures) ∙ c .before .if1 .taken) in
@@ -143,7 +143,7 @@ loop-less-2 c =
     omega (arith, v, ap unready (e .0))
 
 loop-again-2 : tie.Need-loop-again-2 Inv-loop μ-loop
-loop-again-2 c = 
+loop-again-2 c =
     let w = c .before .before in
     let l = draw-turn w in
     let a = begin l .args in
@@ -174,7 +174,7 @@ enum-told : tie.Need-enum-told Inv-loop μ-loop
 enum-told c = search needs
 
 add-t27 : tie.Need-add-t27 Inv-loop μ-loop
-add-t27 c = 
+add-t27 c =
     let l = call-turn (c .before .before .before) in
     omega (arith, begin l .pre .start, begin l .pre .short, draw-read (c .before .before .before .before .before .before) .before .loop-test .taken)
 
@@ -182,7 +182,7 @@ same-length : tie.Need-same-length Inv-loop μ-loop
 same-length c = same-out (c .before .before .before)
 
 returns : tie.Need-returns Inv-loop μ-loop
-returns c = 
+returns c =
     let d = c .before .before .before in
     let w = d .before .before .before in
     let l = call-turn d in
@@ -199,13 +199,13 @@ add-next c =
     record { fits = omega (arith, q .count, leb-true (length (wordsOf (strokeBy (l .loop .hints .map) (begin l .args .state .scale) (l .loop .pen) (path (d .before .before .before)) .records))) (length (drop (l .loop .next) (l .loop .out))) (q .fit), length-drop (l .loop .next) (l .loop .out), l .loop .inv .along .within, room l, l .loop .inv .along .same) }
 
 loop-less-3 : tie.Need-loop-less-3 Inv-loop μ-loop
-loop-less-3 c = 
+loop-less-3 c =
     let d = c .before .before .before .before .before in
     let r = draw-read (d .before .before .before) in
     omega (arith, moved r, r .before .loop-test .taken)
 
 loop-again-3 : tie.Need-loop-again-3 Inv-loop μ-loop
-loop-again-3 c = 
+loop-again-3 c =
     let d = c .before .before .before .before .before in
     let w = d .before .before .before in
     let l = call-turn d in

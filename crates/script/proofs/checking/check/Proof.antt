@@ -1,7 +1,6 @@
 -- `check` gives the first fault of a script, by the contracts of its calls. Assumes nothing.
 use mathlib.Core.Path.{_≡_, sym, ap, _∙_}
 use mathlib.Core.List.{_++_}
-use Prim.Native.Nat.{_<_}
 use native.Mathlib.Omega.{arith}
 use borrow.Author.Needs.{needs}
 use Rattle.words.specs.declared.answer.Answer.the-variants.{Ok}
@@ -33,7 +32,7 @@ code-requires c κs = search needs
 
 returns : tie.Need-returns
 unfolding checkRows
-returns c = 
+returns c =
     let h = c .before .before .check-header .ensures in
     let s = c .before .before .before .before .args .script .now in
     h ∙ sym (found (headerRows s) (paramRows s ++ commandRows (rawAt s 7) (commandsIn s)) (omega (arith, ap numberOf h, c .before .code .ensures, c .if1 .taken)))
@@ -46,7 +45,7 @@ code-requires-2 c κs = search needs
 
 returns-2 : tie.Need-returns-2
 unfolding checkRows
-returns-2 c = 
+returns-2 c =
     let q = c .before .before .check-params .ensures in
     let e = c .before .before .before in
     let s = e .before .before .before .before .args .script .now in
@@ -62,13 +61,13 @@ natural-requires-3 : tie.Need-natural-requires-3
 natural-requires-3 c κs = omega (arith, header-fine (c .before .before .before .before .before) .enough)
 
 check-commands-requires : tie.Need-check-commands-requires
-check-commands-requires c κs = 
+check-commands-requires c κs =
     let f = header-fine (c .before .before .before .before .before .before) in
     (omega (arith, c .before .before .natural .ensures .0, c .before .natural2 .ensures .0, f .ends), (f .short, omega (arith, c .natural3 .ensures .0, f .bytes, f .short)))
 
 returns-3 : tie.Need-returns-3
 unfolding checkRows
-returns-3 c = 
+returns-3 c =
     let e = c .before .before .before .before in
     let h = e .before .before .before in
     let s = h .before .before .before .before .args .script .now in

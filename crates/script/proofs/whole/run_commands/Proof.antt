@@ -1,11 +1,11 @@
 -- `run_commands` runs the commands of a script that passes all tests. Assumes nothing.
-use mathlib.Core.Path.{_≡_, refl, sym, ap, _∙_}
+use mathlib.Core.Path.{sym}
 use Prim.Native.Nat.{_*_, _≤_}
 use lib.ListN.{length}
 use native.Mathlib.Omega.{arith}
 use Rattle.words.specs.Words.{rawAt}
-use Rattle.run.proofs.Filling.{lent}
-use Rattle.script.proofs.Passed.{Passed, passed, runnable, ran}
+use Rattle.commands.proofs.Laws.{lent}
+use Rattle.script.proofs.Passed.{passed, runnable, ran}
 use borrow.Author.Needs.{needs}
 use Rattle.script.proofs.whole.run_commands.Statement.{statement}
 use Rattle.script.proofs.whole.run_commands.Tie as tie
@@ -42,7 +42,7 @@ zones-of-requires : tie.Need-zones-of-requires
 zones-of-requires c κs = search needs
 
 run-requires : tie.Need-run-requires
-run-requires c κs = 
+run-requires c κs =
     let n = c .before .before .before in
     let s = n .before .before .before .before in
     rw (c .before .zones-of .ensures, n .before .before .natural .ensures .0, n .before .natural2 .ensures .0, n .natural3 .ensures .0, lent (s .args .script .now) (4 * rawAt (s .args .script .now) 4)) (runnable _ (passed _ (s .pre)))
@@ -51,7 +51,7 @@ same-length : tie.Need-same-length
 same-length c = search needs
 
 returns : tie.Need-returns
-returns c = 
+returns c =
     let r = c .before in
     let z = r .before .before in
     let n = z .before .before in

@@ -1,8 +1,8 @@
 -- `run_script` answers a script and leaves the output as its definition says, whichever way it ends. Assumes nothing.
-use mathlib.Core.Path.{_≡_, refl, sym, ap, _∙_}
-use mathlib.Core.Bool.{true, false}
+use mathlib.Core.Path.{_≡_, sym, ap, _∙_}
+use mathlib.Core.Bool.{false}
 use mathlib.Core.List.{List, [], _∷_, _++_}
-use Prim.Native.Nat.{ℕ, _-_, _≤_, _<_}
+use Prim.Native.Nat.{ℕ, _-_, _≤_}
 use native.Mathlib.Omega.{arith}
 use lib.IntN.{ℤ, pos}
 use lib.ListN.{length, take, drop, length-drop}
@@ -17,9 +17,10 @@ use Rattle.words.specs.declared.answer.Answer.the-variants.{Ok}
 use Rattle.words.specs.Answers.{numberOf, refuses, firstOf}
 use Rattle.words.proofs.Rows.{not-refused}
 use Rattle.run.specs.declared.running.Ran.{Ran}
-use Rattle.run.proofs.Filling.{lent, back}
+use Rattle.run.proofs.Filling.{back}
+use Rattle.commands.proofs.Laws.{lent}
 use Rattle.script.specs.Script.{checkRows, stepsIn}
-use Rattle.script.proofs.Passed.{Passed, passed}
+use Rattle.script.proofs.Passed.{passed}
 use Rattle.script.proofs.Results.{refused, taken, by-fault, by-size, ran, by-room, by-run, header-before, behind, short}
 use borrow.Author.Needs.{needs}
 use Rattle.script.proofs.whole.run_script.Statement.{statement}
@@ -84,7 +85,7 @@ code-requires : tie.Need-code-requires
 code-requires c κs = search needs
 
 returns : tie.Need-returns
-returns c = 
+returns c =
     let k = c .before .before in
     let s = k .before .before .args in
     let n = ap numberOf (k .check .ensures) in
@@ -94,7 +95,7 @@ natural-requires : tie.Need-natural-requires
 natural-requires c κs = omega (arith, passed _ (all-ok (c .before)) .fine .enough)
 
 returns-2 : tie.Need-returns-2
-returns-2 c = 
+returns-2 c =
     let e = c .before .before in
     let s = e .before .before .before .before .args in
     rw (c .natural .ensures .0) (by-size (s .script .now) (s .out .now) (no-fault e) (c .before .if2 .taken))
@@ -118,7 +119,7 @@ same-length : tie.Need-same-length
 same-length c = search needs
 
 returns-3 : tie.Need-returns-3
-returns-3 c = 
+returns-3 c =
     let r = c .before .before .before in
     let n = ap numberOf (answer-is r) in
     rw (answer-is r, home r) (by-room (script r) (out r) (no-fault (begun r)) (enough r) (refused (fit r .said) (λ z. c .if3 .taken (c .before .code2 .ensures ∙ n ∙ z))))
@@ -133,7 +134,7 @@ part-count-records-end : tie.Need-part-count-records-end
 part-count-records-end c = search needs
 
 count-records-requires : tie.Need-count-records-requires
-count-records-requires c κs = 
+count-records-requires c κs =
     let r = c .before .before .before .before .before in
     let e = ap length (lent (mid r) 4) ∙ length-drop 4 (mid r) in
     omega (arith, words-are r, e, mid-length r, length-drop 4 (out r), within-room (length (drop 4 (out r))) (stepsIn (script r)))
@@ -145,7 +146,7 @@ cast-seal-2 : tie.Need-cast-seal-2
 cast-seal-2 c = record { fits = omega (arith, words-are (c .before .before .before .before .before .before .before .before), few (c .before .before .before .before .before .before .before .before)) }
 
 seal-requires : tie.Need-seal-requires
-seal-requires c κs = 
+seal-requires c κs =
     let k = c .before .before in
     let r = k .before .before .before .before .before .before in
     (omega (arith, mid-length r, enough r), (omega (arith, counted k, few-records (fit r .words), few r), omega (arith, words-are r, few r)))
@@ -154,7 +155,7 @@ same-length-2 : tie.Need-same-length-2
 same-length-2 c = search needs
 
 returns-4 : tie.Need-returns-4
-returns-4 c = 
+returns-4 c =
     let k = c .before .before .before .before in
     let r = k .before .before .before .before .before .before in
     let e = k .before .before .before in

@@ -6,7 +6,7 @@ use Rattle.zones.specs.State.{stateOf}
 use Rattle.header.specs.Params.{paramsOf}
 use Rattle.header.proofs.Fine.{counted, scaled}
 use Rattle.script.specs.Script.{zonesOf}
-use Rattle.script.proofs.Passed.{Passed, passed}
+use Rattle.script.proofs.Passed.{passed}
 use Rattle.script.proofs.whole.zones_of.Statement.{statement}
 use Rattle.script.proofs.whole.zones_of.Tie as tie
 
@@ -17,13 +17,13 @@ number-requires : tie.Need-number-requires
 number-requires c κs = omega (arith, passed _ (c .before .before .pre) .fine .enough)
 
 new-requires : tie.Need-new-requires
-new-requires c κs = 
+new-requires c κs =
     let p = passed _ (c .before .before .before .pre) in
     rw (c .before .read-params .ensures, c .number .ensures) (counted _ (p .whole), scaled _ (p .params))
 
 returns : tie.Need-returns
 unfolding zonesOf
-returns c = 
+returns c =
     let n = c .before in
     c .new .ensures ∙ ap (λ (x : HintParams). stateOf x (n .number .result)) (n .before .read-params .ensures) ∙ ap (stateOf (paramsOf (n .before .before .before .args .script .now))) (n .number .ensures)
 
