@@ -1,12 +1,11 @@
-/* Speaks the batch protocol for a static library. Only the declaration of spoonglacier_run and the call
-   of it know the library's entry. Guard words stand after the output, and a copy of the script is kept,
+/* Speaks the batch protocol for the static library. Guard words stand after the output, and a copy of the script is kept,
    so that a write outside the lent words is seen. */
 #include <stdint.h>
 #include <stdio.h>
 #include <stdlib.h>
 #include <string.h>
 
-int32_t spoonglacier_run(const uint8_t *script, size_t length, int32_t *out, size_t room, int32_t *place);
+#include "spoonglacier.h"
 
 enum { guards = 16 };
 
@@ -32,8 +31,10 @@ int main(void) {
         memcpy(copy, script, length);
         for (uint32_t place = 0; place < room + guards; place++)
             out[place] = lent_word(fill, place);
-        int32_t answer[2] = {0, -1};
-        answer[0] = spoonglacier_run(script, length, (int32_t *)out, room, &answer[1]);
+        size_t at = SIZE_MAX;
+        uint32_t answer[2];
+        answer[0] = spoonglacier_run(script, length, (int32_t *)out, room, &at);
+        answer[1] = (uint32_t)at;
         for (uint32_t place = room; place < room + guards; place++)
             if (out[place] != lent_word(fill, place))
                 stop("a word past the lent output was written");

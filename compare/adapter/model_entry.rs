@@ -7,11 +7,11 @@ pub unsafe extern "C" fn spoonglacier_run(
     length: usize,
     out: *mut i32,
     room: usize,
-    place: *mut i32,
-) -> i32 {
+    place: *mut usize,
+) -> u32 {
     let script = std::slice::from_raw_parts(script, length);
     let out = std::slice::from_raw_parts_mut(out, room);
     let (number, at) = model::run(script, out, false);
-    *place = at;
-    number
+    *place = at as usize;
+    number as u32
 }
