@@ -19,7 +19,7 @@ from model_calls import (
 from model import Stem
 from vectors import HIGH, LOW, print_rows
 from vectors_stems import counted
-from vectors_zones import EM_BOX, font, ghost_bottom, ghost_top, given
+from vectors_zones import EM_BOX, font, given
 
 HEADER = """\
 // Rows for sequences of calls on a drawing. A row starts with the count of its numbers.
@@ -202,7 +202,8 @@ def worked_rooms():
     yield PLAIN, 2048, OK, [*calls, (finish(room=0), None), (finish(room=1), [5])]
     # A move after a line needs 7 words, and a curve with no line before it 7.
     calls = [(move(1, 1), [1, 65536, 65536]), (line(2, 2), []), (move(3, 3, room=6), None)]
-    calls += [(move(3, 3, room=7), [2, 131072, 131072, 4, 1, 196608, 196608]), (curve(0, 0, 1, 1, 2, 2, room=6), None)]
+    calls += [(move(3, 3, room=7), [2, 131072, 131072, 4, 1, 196608, 196608])]
+    calls += [(curve(0, 0, 1, 1, 2, 2, room=6), None)]
     calls += [(curve(0, 0, 1, 1, 2, 2, room=7), [3, 0, 0, 65536, 65536, 131072, 131072]), (finish(room=1), None)]
     yield PLAIN, ONE, OK, [*calls, (finish(room=2), [4, 5])]
     # A line that waits with no room has its map built: the stem after it is ignored.
@@ -252,11 +253,14 @@ def openings():
 # Paths.
 
 
-def path(kinds, count=0):
+# A line to where the last move went.
+BACK = 0
+
+
+def path(kinds):
     """Calls of some kinds at points of their own, those of BACK at the last move's."""
     calls, start = [], (10, 20.5)
-    for kind in kinds:
-        count += 1
+    for count, kind in enumerate(kinds, 1):
         x, y = 3 * count + 1 / 64, 5 * count + 1 / 128
         if kind == MOVE:
             start = x, y
@@ -268,9 +272,6 @@ def path(kinds, count=0):
         else:
             calls.append(line(*(start if kind == BACK else (x, y))))
     return calls
-
-
-BACK = 0
 
 
 def paths():
@@ -407,6 +408,11 @@ def takes_any_stem(drawing, low, high):
     drawing.stems.append(Stem(low, high))
 
 
+def finish_builds(drawing):
+    model_calls.device(drawing, 0, 0)
+    return model_calls.finish(drawing)
+
+
 def clears_path(drawing):
     clear(drawing)
     drawing.start = drawing.waiting = None
@@ -455,6 +461,7 @@ def found_all(kind, call, slips):
 
 def stems():
     yield from found_all(STEM, drawn_stem, [ignores, takes_any_stem])
+    yield from found(finish, {"DRAWING": {**DRAWING, FINISH: finish_builds}})
 
 
 def masks():

@@ -13,7 +13,7 @@ use Rattle.drawing.proofs.Kept.{kept-new, kept-stem, kept-mask, kept-counter, k
 
 module _ (st : HintState) (d : Drawing) (k : Kept st (d .hints)) where
   -- a call that is done keeps it
-  pub kept-next : (c : Call) → Kept st (nextOf st d c .hints)
+  kept-next : (c : Call) → Kept st (nextOf st d c .hints)
   kept-next (stem min max) = kept-stem st (d .hints) k min max
   kept-next (hintMask m) = kept-mask st (d .hints) k m
   kept-next (counterMask m) = kept-counter st (d .hints) k m
