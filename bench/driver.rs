@@ -1,0 +1,178 @@
+//! Runs the same scripts through the static library and through the Rust, in turn, and prints the ratio of their times.
+//!     driver [ROUNDS]        the ratios
+//!     driver only SHAPE N    N turns of one shape (0 to 2) through the static library alone, for a profiler
+//!     driver copies SHAPE    where the static library copies from, where the driver is linked with copies.c
+
+mod shapes;
+
+use rust_side::lean;
+use shapes::{masks, points, shapes, stems, Shape};
+use std::hint::black_box;
+use std::time::Instant;
+
+extern "C" {
+    fn spoonglacier_run(script: *const u8, script_bytes: usize, out: *mut i32, out_words: usize, place: *mut usize) -> u32;
+}
+
+fn ours(script: &[u8], out: &mut [i32]) -> bool {
+    let mut place = 0;
+    unsafe { spoonglacier_run(script.as_ptr(), script.len(), out.as_mut_ptr(), out.len(), &mut place) == 0 }
+}
+
+const SIDES: [&str; 4] = ["ours", "the Rust, whole script", "the Rust, hinter alone", "the Rust, comparison's driver"];
+
+struct Case<'a> {
+    bytes: &'a [u8],
+    parsed: lean::Parsed<'a>,
+    room: usize,
+}
+
+fn run(side: usize, case: &Case, out: &mut [i32]) -> bool {
+    let out = &mut out[..case.room];
+    match side {
+        0 => ours(case.bytes, out),
+        1 => lean::whole(case.bytes, out),
+        2 => lean::hinter_alone(&case.parsed, out),
+        _ => rust_side::run(case.bytes, out).0 == 0,
+    }
+}
+
+fn cases<'a>(shape: &Shape, bytes: &'a [Vec<u8>]) -> Vec<Case<'a>> {
+    let made = |(script, bytes): (&generate::Script, &'a Vec<u8>)| Case {
+        bytes,
+        parsed: lean::parse(bytes),
+        room: script.most_words(),
+    };
+    shape.scripts.iter().zip(bytes).map(made).collect()
+}
+
+/// All sides must answer OK and leave the same words, those past the records included.
+fn agree(cases: &[Case]) -> bool {
+    cases.iter().all(|case| {
+        let answer = |side| {
+            let mut out = vec![-77; case.room];
+            run(side, case, &mut out).then_some(out)
+        };
+        let first = answer(0);
+        first.is_some() && (1..SIDES.len()).all(|side| answer(side) == first)
+    })
+}
+
+fn range(counts: impl Iterator<Item = usize> + Clone) -> String {
+    format!("{} to {}", counts.clone().min().unwrap(), counts.max().unwrap())
+}
+
+/// Which side comes at a turn of a round: each comes first in its time, and every other round goes backwards.
+fn order(round: usize, turn: usize) -> usize {
+    let turn = if round % 2 == 0 { turn } else { SIDES.len() - 1 - turn };
+    (turn + round / 2) % SIDES.len()
+}
+
+/// Nanoseconds of every side for each block of scripts, round after round.
+fn measure(cases: &[Case], block: usize, rounds: usize) -> Vec<Vec<Vec<u64>>> {
+    let blocks: Vec<&[Case]> = cases.chunks(block).collect();
+    let mut out = vec![0; cases.iter().map(|case| case.room).max().unwrap()];
+    let mut times = vec![vec![Vec::with_capacity(rounds); blocks.len()]; SIDES.len()];
+    for round in 0..rounds {
+        for (number, block) in blocks.iter().enumerate() {
+            for turn in 0..SIDES.len() {
+                let side = order(round, turn);
+                let start = Instant::now();
+                for case in *block {
+                    black_box(run(side, black_box(case), &mut out));
+                }
+                times[side][number].push(start.elapsed().as_nanos() as u64);
+            }
+        }
+    }
+    times
+}
+
+/// The sum over the blocks of the least and of the middle time of each.
+fn least_and_middle(blocks: &mut [Vec<u64>]) -> [f64; 2] {
+    let mut sums = [0.0; 2];
+    for times in blocks {
+        times.sort_unstable();
+        sums[0] += times[0] as f64;
+        sums[1] += times[times.len() / 2] as f64;
+    }
+    sums
+}
+
+fn ratios(rounds: usize) {
+    for shape in shapes() {
+        let bytes: Vec<Vec<u8>> = shape.scripts.iter().map(|script| script.bytes()).collect();
+        let cases = cases(&shape, &bytes);
+        let scripts = &shape.scripts;
+        let all_points: usize = scripts.iter().map(points).sum();
+        println!(
+            "{}: {} scripts, {} points, {} stems, {} masks",
+            shape.name,
+            scripts.len(),
+            range(scripts.iter().map(points)),
+            range(scripts.iter().map(stems)),
+            range(scripts.iter().map(masks)),
+        );
+        if !agree(&cases) {
+            println!("    the sides answer differently");
+            std::process::exit(1);
+        }
+        measure(&cases, shape.block, rounds / 10 + 1);
+        let mut times = measure(&cases, shape.block, rounds);
+        let sums: Vec<[f64; 2]> = times.iter_mut().map(|blocks| least_and_middle(blocks)).collect();
+        println!("    {:32}{:>12}{:>12}{:>16}{:>16}", "", "ns/script", "ns/point", "ratio, least", "ratio, median");
+        for (side, sum) in sums.iter().enumerate() {
+            print!("    {:32}", SIDES[side]);
+            print!("{:12.0}{:12.1}", sum[0] / scripts.len() as f64, sum[0] / all_points as f64);
+            if side > 0 {
+                print!("{:16.2}{:16.2}", sums[0][0] / sum[0], sums[0][1] / sum[1]);
+            }
+            println!();
+        }
+    }
+}
+
+/// Turns of one shape through our side alone.
+fn only(shape: usize, turns: usize) {
+    let shape = &shapes()[shape];
+    let bytes: Vec<Vec<u8>> = shape.scripts.iter().map(|script| script.bytes()).collect();
+    let mut out = vec![0; 65536];
+    for _ in 0..turns {
+        for script in &bytes {
+            black_box(ours(black_box(script), &mut out));
+        }
+    }
+}
+
+#[cfg(copies)]
+extern "C" {
+    fn copies_start();
+    fn copies_print(scripts: usize, points: usize);
+}
+
+#[cfg(copies)]
+fn copies(shape: usize) {
+    let shape = &shapes()[shape];
+    let bytes: Vec<Vec<u8>> = shape.scripts.iter().map(|script| script.bytes()).collect();
+    let mut out = vec![0; 65536];
+    unsafe { copies_start() };
+    for script in &bytes {
+        ours(script, &mut out);
+    }
+    unsafe { copies_print(bytes.len(), shape.scripts.iter().map(points).sum()) };
+}
+
+#[cfg(not(copies))]
+fn copies(_: usize) {
+    println!("this driver is not linked with copies.c");
+}
+
+fn main() {
+    let words: Vec<String> = std::env::args().skip(1).collect();
+    let number = |at: usize| words.get(at).and_then(|word| word.parse::<usize>().ok());
+    match words.first().map(String::as_str) {
+        Some("only") => only(number(1).unwrap_or(0), number(2).unwrap_or(1)),
+        Some("copies") => copies(number(1).unwrap_or(0)),
+        _ => ratios(number(0).unwrap_or(400)),
+    }
+}
