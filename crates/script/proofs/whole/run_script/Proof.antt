@@ -51,7 +51,7 @@ module _ (c : tie.After-run-commands) where
   fit = ran script out (no-fault begun) enough
 
   ended : Ended (outcomeOf fit (drop 4 out)) (c .run-commands .result) (c .run-commands .last .1 .0)
-  ended = rw (lent out 4) at (c .run-commands .ensures)
+  ended = rw lent at (c .run-commands .ensures)
 
   answer-is : c .run-commands .result .answer ≡ fit .said
   answer-is = ap (λ (r : Ran). r .answer) (ended .said)
