@@ -13,7 +13,7 @@ from model_map import HALF, ONE, Map, built_map, initial_map, insert, mapped, st
 from model import Stem, mask, state
 from vectors import HIGH, LOW, print_rows
 from vectors_stems import counted
-from vectors_zones import EM_BOX, font, ghost_bottom, ghost_top, in_bits
+from vectors_zones import EM_BOX, font, ghost_bottom, ghost_top, given, in_bits
 
 HEADER = """\
 // Rows for maps and for their building. A row starts with the count of its numbers.
@@ -117,10 +117,7 @@ def build(params, scale, stems, first):
 
 def build_row(params, scale, stems, first=(255, 255), second=(0, 0), heights=()):
     """A scale and parameters; stems; the initial map; a mask and its map, twice; saved heights; heights."""
-    lists = [params.blues, params.other_blues]
-    row = [scale, params.blue_scale, params.blue_shift, params.blue_fuzz, params.language_group]
-    row += [len(pairs) for pairs in lists] + [end for pairs in lists for pair in pairs for end in pair]
-    row += [len(stems)] + [end for stem in stems for end in stem]
+    row = given(params, scale) + [len(stems)] + [end for stem in stems for end in stem]
     initial, map, _, after = build(params, scale, stems, first)
     row += edge_numbers(initial) + [*first, *edge_numbers(map)]
     other, _ = built_map(params, state(params, scale), mask(second), after, initial, scale)

@@ -71,8 +71,8 @@ module _ (st : HintState) (d : Drawing) where
   point-hints (Curve p q r) e = refl
   point-hints Finish e = cc
 
-  pub point-stroke : (path : Path) → hasPoint path ≡ true → {h : Hints} → h ≡ readyOf st (d .hints) → strokeBy (h .map) (st .scale) (d .pen) path ≡ strokeOf st (d .hints) (d .pen) (callOf path)
-  point-stroke (Move p) e f = rw f
-  point-stroke (Line p) e f = rw f
-  point-stroke (Curve p q r) e f = rw f
-  point-stroke Finish e f = refl
+  pub point-stroke : (path : Path) {h : Hints} → h ≡ readyOf st (d .hints) → strokeBy (h .map) (st .scale) (d .pen) path ≡ strokeOf st (d .hints) (d .pen) (callOf path)
+  point-stroke (Move p) f = rw f
+  point-stroke (Line p) f = rw f
+  point-stroke (Curve p q r) f = rw f
+  point-stroke Finish f = refl

@@ -3,7 +3,6 @@ use mathlib.Core.Path.{_≡_, refl, sym, ap, _∙_}
 use mathlib.Core.Bool.{Bool, true, false}
 use mathlib.Core.List.{List}
 use Prim.Native.Nat.{ℕ, _≤_}
-use native.Mathlib.Omega.{arith}
 use lib.IntN.{ℤ}
 use lib.ListN.{length}
 use Rattle.fixed.specs.declared.Fixed.{Fixed}
@@ -44,67 +43,63 @@ pub ready-twice : (st : HintState) (h : Hints) → readyOf st (readyOf st h) ≡
 ready-twice st h = ready-idle st (readyOf st h) (ready-valid st h)
 
 -- ---- how many words a path call writes
+-- its words
+abbrev pub pathWords : HintMap → Fixed → Pen → Path → List ℤ
+pathWords m s pen path = wordsOf (strokeBy m s pen path .records)
+
 whole : {r : Records} (ws : List ℤ) → r ≡ emitted ws → length (wordsOf r) ≡ r .count
 whole ws e = rw e (ap length (words-emitted ws)) ∙ sym (count-is ws e)
 
 module _ (m : HintMap) (s : Fixed) (pen : Pen) where
   -- as many as its records count
-  pub path-whole : (path : Path) → length (wordsOf (strokeBy m s pen path .records)) ≡ strokeBy m s pen path .records .count
+  pub path-whole : (path : Path) → length (pathWords m s pen path) ≡ strokeBy m s pen path .records .count
   unfolding moveOf lineOf curveOf finishOf
   path-whole (Move p) = whole _ refl
   path-whole (Line p) = whole _ refl
   path-whole (Curve p q r) = whole _ refl
   path-whole Finish = whole _ refl
 
+  -- at most ten
   pub path-short : (path : Path) → strokeBy m s pen path .records .count ≤ 10
   path-short (Move p) = move-short pen p _
   path-short (Line p) = line-short pen p _
   path-short (Curve p q r) = curve-short pen _ _ _
   path-short Finish = finish-short pen
 
-  pub words-short : (path : Path) → length (wordsOf (strokeBy m s pen path .records)) ≤ 10
+  pub words-short : (path : Path) → length (pathWords m s pen path) ≤ 10
   words-short path = rw (path-whole path) (path-short path)
 
 -- ---- what the answer of a path call says
--- a call that wrote so many words
+-- of a call that wrote so many words
 pub record DrewWords (m : HintMap) (s : Fixed) (from : Pen) (path : Path) (out : List ℤ) (said : Drawn) (k : ℕ) (exit : List ℤ) : Type 0 where
-  pub fit : fits (wordsOf (strokeBy m s from path .records)) out ≡ true
+  pub fit : fits (pathWords m s from path) out ≡ true
   pub pen : said .pen ≡ strokeBy m s from path .pen
-  pub count : k ≡ length (wordsOf (strokeBy m s from path .records))
-  pub left : exit ≡ written (wordsOf (strokeBy m s from path .records)) out
+  pub count : k ≡ length (pathWords m s from path)
+  pub left : exit ≡ written (pathWords m s from path) out
 
--- a call that was refused
+-- of a call that was refused
 pub record DrewNothing (m : HintMap) (s : Fixed) (from : Pen) (path : Path) (out : List ℤ) (said : Drawn) (exit : List ℤ) : Type 0 where
-  pub fit : fits (wordsOf (strokeBy m s from path .records)) out ≡ false
+  pub fit : fits (pathWords m s from path) out ≡ false
   pub pen : said .pen ≡ from
   pub left : exit ≡ out
 
--- one and nothing are two
-apart : {A : Type 0} → _≡_ {A = ℕ} 0 1 → A
-apart z = absurd (no z)
-  where
-    no : _≡_ {A = ℕ} 0 1 → ⊥
-    no z = omega arith
-
 module _ {m : HintMap} {s : Fixed} {pen : Pen} {path : Path} {out : List ℤ} {said : Drawn} {left : List ℤ} (h : Drew m s pen path out said left) where
   pub drew-wrote : (k : ℕ) → said .answer ≡ Wrote k → DrewWords m s pen path out said k left
-  drew-wrote k a = go (fits (wordsOf (strokeBy m s pen path .records)) out) refl (h .answer) (h .memory)
+  drew-wrote k a = go (fits (pathWords m s pen path) out) refl (h .answer) (h .memory)
     where
-      go : (b : Bool) → fits (wordsOf (strokeBy m s pen path .records)) out ≡ b → said ≡ drawnBy b pen (strokeBy m s pen path) → left ≡ pickWords b (written (wordsOf (strokeBy m s pen path .records)) out) out → DrewWords m s pen path out said k left
+      go : (b : Bool) → fits (pathWords m s pen path) out ≡ b → said ≡ drawnBy b pen (strokeBy m s pen path) → left ≡ pickWords b (written (pathWords m s pen path) out) out → DrewWords m s pen path out said k left
       go true f e l =
-          let w : Wrote (length (wordsOf (strokeBy m s pen path .records))) ≡ Wrote k = sym (ap (λ (x : Drawn). x .answer) e) ∙ a in
+          let w : Wrote (length (pathWords m s pen path)) ≡ Wrote k = sym (ap (λ (x : Drawn). x .answer) e) ∙ a in
           record { fit = f; pen = ap (λ (x : Drawn). x .pen) e; count = cc; left = l }
       go false f e l =
           let w : NoRoom ≡ Wrote k = sym (ap (λ (x : Drawn). x .answer) e) ∙ a in
-          let z : _≡_ {A = ℕ} 0 1 = cc in
-          apart z
+          record { fit = cc; pen = cc; count = cc; left = cc }
 
   pub drew-refused : said .answer ≡ NoRoom → DrewNothing m s pen path out said left
-  drew-refused a = go (fits (wordsOf (strokeBy m s pen path .records)) out) refl (h .answer) (h .memory)
+  drew-refused a = go (fits (pathWords m s pen path) out) refl (h .answer) (h .memory)
     where
-      go : (b : Bool) → fits (wordsOf (strokeBy m s pen path .records)) out ≡ b → said ≡ drawnBy b pen (strokeBy m s pen path) → left ≡ pickWords b (written (wordsOf (strokeBy m s pen path .records)) out) out → DrewNothing m s pen path out said left
+      go : (b : Bool) → fits (pathWords m s pen path) out ≡ b → said ≡ drawnBy b pen (strokeBy m s pen path) → left ≡ pickWords b (written (pathWords m s pen path) out) out → DrewNothing m s pen path out said left
       go true f e l =
-          let w : Wrote (length (wordsOf (strokeBy m s pen path .records))) ≡ NoRoom = sym (ap (λ (x : Drawn). x .answer) e) ∙ a in
-          let z : _≡_ {A = ℕ} 0 1 = cc in
-          apart z
+          let w : Wrote (length (pathWords m s pen path)) ≡ NoRoom = sym (ap (λ (x : Drawn). x .answer) e) ∙ a in
+          record { fit = cc; pen = cc; left = cc }
       go false f e l = record { fit = f; pen = ap (λ (x : Drawn). x .pen) e; left = l }

@@ -88,7 +88,7 @@ impl Hints {
     }
 
     // From `build`: the initial map is made first, where it is not valid.
-    pub(crate) fn with_initial(self, state: HintState) -> Hints
+    fn with_initial(self, state: HintState) -> Hints
         requires { ⌜ Kept state self ⌝ }
         ensures { λ r. ⌜ r ≡ withInitial state self ⌝ }
     {
@@ -142,7 +142,7 @@ impl Hints {
 }
 
 // Ports `hint` and `scale`: a character point on the device.
-pub fn place(map: HintMap, scale: Fixed, at: Point) -> Point
+pub(crate) fn place(map: HintMap, scale: Fixed, at: Point) -> Point
     requires { ⌜ map .len ≤ 96 ⌝ }
     ensures { λ r. ⌜ r ≡ devicePoint map scale at ⌝ }
 {

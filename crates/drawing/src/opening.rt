@@ -24,7 +24,7 @@ pub struct Opened {
 }
 
 // From `HintingSink::new`.
-pub fn new_drawing(scale: Fixed) -> Drawing
+fn new_drawing(scale: Fixed) -> Drawing
     ensures { λ r. ⌜ r ≡ newDrawing scale ⌝ }
 {
     let hints = Hints::new(scale);

@@ -53,9 +53,9 @@ pub fn draw(map: HintMap, scale: Fixed, pen: Pen, path: Path, out: &mut [i32]) -
     ensures { λ r. ⌜ Drew map scale pen path (now (out .entry)) r (now (out .exit)) ⌝ }
 {
     let stroke = stroke(map, scale, pen, path);
+    let next = stroke.pen;
     let records = stroke.records;
     if put(out, records) {
-        let next = stroke.pen;
         return Drawn {
             pen: next,
             answer: Answer::Wrote(records.count),

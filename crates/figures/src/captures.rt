@@ -1,7 +1,6 @@
 // Captures of stems' edges by zones, run on the rows of `zones_rows`.
-use crate::rows;
-use crate::rows::Rows;
-use crate::states;
+use crate::tables;
+use crate::tables::Rows;
 use crate::zones_rows;
 use fixed::Fixed;
 use stems::Hint;
@@ -10,13 +9,13 @@ use zones::HintState;
 ghost use Prim.Native.Nat.{_≤_};
 
 pub fn run() {
-    rows::run(b"captures", Rows::Captures, &zones_rows::CAPTURES);
+    tables::run(b"captures", Rows::Captures, &zones_rows::CAPTURES);
 }
 
 // A row: a scale and parameters, a count of stems, and to the end seven numbers for each.
 pub fn captures_agree(row: &[i32]) -> bool {
-    let state = states::state_of(row);
-    let at = states::after_pairs(row);
+    let state = rows::state(row);
+    let at = rows::after_pairs(row, 7);
     let stems = rows::count(row, at, 20);
     if row.len() != at + 1 + 7 * stems {
         return false;

@@ -1,14 +1,13 @@
 // Stems' edges, run on the rows of `stems_rows`.
-use crate::rows;
-use crate::rows::Rows;
 use crate::stems_rows;
+use crate::tables;
+use crate::tables::Rows;
 use stems::Hint;
-use stems::Kind;
 use stems::StemHint;
 ghost use Prim.Native.Nat.{_≤_};
 
 pub fn run() {
-    rows::run(b"edges", Rows::Edges, &stems_rows::EDGES);
+    tables::run(b"edges", Rows::Edges, &stems_rows::EDGES);
 }
 
 // A row: a stem, its number and a scale; of the bottom edge and of the top edge the kind, 1 if it is
@@ -43,7 +42,7 @@ fn edge_agrees(edge: Hint, row: &[i32], at: usize) -> bool
         return false;
     }
     let kind = edge.kind;
-    if number_of(kind) != rows::number(row, at) {
+    if rows::kind_number(kind) != rows::number(row, at) {
         return false;
     }
     if edge.locked != rows::flag(row, at + 1) {
@@ -53,14 +52,4 @@ fn edge_agrees(edge: Hint, row: &[i32], at: usize) -> bool
         return false;
     }
     edge.ds_coord.bits == rows::number(row, at + 3)
-}
-
-fn number_of(kind: Kind) -> i32 {
-    match kind {
-        Kind::Absent => 0,
-        Kind::GhostBottom => 1,
-        Kind::GhostTop => 2,
-        Kind::PairBottom => 3,
-        Kind::PairTop => 4,
-    }
 }

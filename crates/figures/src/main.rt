@@ -5,10 +5,9 @@ mod edges;
 mod masks;
 mod numbers;
 mod operations;
-mod report;
-mod rows;
 mod states;
 mod stems_rows;
+mod tables;
 mod zones_rows;
 
 fn main() {

@@ -1,20 +1,20 @@
 // Masks, run on the rows of `stems_rows`.
-use crate::rows;
-use crate::rows::Rows;
 use crate::stems_rows;
+use crate::tables;
+use crate::tables::Rows;
 use stems::HintMask;
 ghost use Prim.Native.Nat.{_≤_};
 
 pub fn run() {
-    rows::run(b"masks", Rows::Masks, &stems_rows::MASKS);
-    rows::run(b"same masks", Rows::SameMasks, &stems_rows::SAME_MASKS);
+    tables::run(b"masks", Rows::Masks, &stems_rows::MASKS);
+    tables::run(b"same masks", Rows::SameMasks, &stems_rows::SAME_MASKS);
 }
 
 // A row: a count and so many bytes, the mask's 12 bytes; a bit, 1 if it is active, and the 12 bytes
 // once it is cleared.
 pub fn mask_agrees(row: &[i32]) -> bool {
     let n = rows::count(row, 1, 13);
-    let mask = mask_at(row, 1);
+    let mask = rows::mask(row, 1);
     if !same_bytes(mask, row, 2 + n) {
         return false;
     }
@@ -29,20 +29,8 @@ pub fn mask_agrees(row: &[i32]) -> bool {
 pub fn same_agrees(row: &[i32]) -> bool {
     let n = rows::count(row, 1, 13);
     let m = rows::count(row, 2 + n, 13);
-    let same = mask_at(row, 1).same(mask_at(row, 2 + n));
+    let same = rows::mask(row, 1).same(rows::mask(row, 2 + n));
     same == rows::flag(row, 3 + n + m)
-}
-
-// The mask of a count at `at` and the bytes after it.
-fn mask_at(row: &[i32], at: usize) -> HintMask
-    requires { ⌜ at ≤ 15 ⌝ }
-{
-    let n = rows::count(row, at, 13);
-    let mut bytes = [0u8; 13];
-    for i in 0..n {
-        bytes[i] = rows::count(row, at + 1 + i, 255) as u8;
-    }
-    HintMask::new(&bytes[0..n])
 }
 
 // The mask's bytes are the 12 from `at` on.

@@ -1,6 +1,5 @@
 // The operations of 16.16 numbers, run on the rows of `numbers`.
 use crate::numbers;
-use crate::report;
 use fixed::Fixed;
 ghost use Prim.Native.Nat.{_+_, _<_};
 ghost use lib.ListN.{length};
@@ -77,11 +76,11 @@ fn table(name: &[u8], operation: Operation, rows: &[i32]) {
     let mut differ = 0;
     for i in 0..count {
         if !agrees(operation, rows, 4 * i) {
-            report::row_differs(name, i);
+            rows::row_differs(name, i);
             differ += 1;
         }
     }
-    report::counts(name, count, differ);
+    rows::counts(name, count, differ);
 }
 
 // The row that starts at `at` agrees with the operation.

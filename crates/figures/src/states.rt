@@ -1,27 +1,22 @@
 // Zones, run on the rows of `zones_rows`.
-use crate::rows;
-use crate::rows::Rows;
+use crate::tables;
+use crate::tables::Rows;
 use crate::zones_rows;
-use fixed::Fixed;
-use zones::Blue;
 use zones::BlueZone;
-use zones::Blues;
-use zones::HintParams;
 use zones::HintState;
 ghost use Prim.Native.Nat.{_≤_};
-ghost use Rattle.zones.specs.State.{Counted};
 
 pub fn run() {
-    rows::run(b"zone lists", Rows::States, &zones_rows::LISTS);
-    rows::run(b"zones by family", Rows::States, &zones_rows::FAMILIES);
-    rows::run(b"zones by scale", Rows::States, &zones_rows::SCALES);
+    tables::run(b"zone lists", Rows::States, &zones_rows::LISTS);
+    tables::run(b"zones by family", Rows::States, &zones_rows::FAMILIES);
+    tables::run(b"zones by scale", Rows::States, &zones_rows::SCALES);
 }
 
 // A row: a scale and parameters; 1 for em-box hints, 1 for suppression, boost, blue scale, and the
 // zones.
 pub fn state_agrees(row: &[i32]) -> bool {
-    let state = state_of(row);
-    let at = after_pairs(row);
+    let state = rows::state(row);
+    let at = rows::after_pairs(row, 7);
     if !zones_agree(state, row, at + 4) {
         return false;
     }
@@ -83,77 +78,4 @@ fn same_zone(a: BlueZone, b: BlueZone) -> bool {
         return false;
     }
     a.ds_flat_edge.bits == b.ds_flat_edge.bits
-}
-
-// The state of the row's scale and parameters. No row has a scale below 1, where this takes 1.
-pub fn state_of(row: &[i32]) -> HintState {
-    let params = params_of(row);
-    let scale = rows::number(row, 1);
-    if 0 < scale {
-        return HintState::new(params, Fixed { bits: scale });
-    }
-    HintState::new(params, Fixed { bits: 1 })
-}
-
-// Blue scale, shift, fuzz and group; the counts of blues, other blues, family blues and family other
-// blues; the pairs.
-fn params_of(row: &[i32]) -> HintParams
-    ensures { λ r. ⌜ Counted r ⌝ }
-{
-    let others = 10 + 2 * rows::count(row, 6, 7);
-    let family = others + 2 * rows::count(row, 7, 7);
-    let family_others = family + 2 * rows::count(row, 8, 7);
-    let blues = blues_at(row, 6, 10);
-    let other_blues = blues_at(row, 7, others);
-    let family_blues = blues_at(row, 8, family);
-    let family_other_blues = blues_at(row, 9, family_others);
-    HintParams {
-        blue_scale: rows::fixed(row, 2),
-        blue_shift: rows::fixed(row, 3),
-        blue_fuzz: rows::fixed(row, 4),
-        language_group: rows::number(row, 5),
-        blues,
-        other_blues,
-        family_blues,
-        family_other_blues,
-    }
-}
-
-// Where the row goes on after the pairs.
-pub fn after_pairs(row: &[i32]) -> usize
-    ensures { λ r. ⌜ r ≤ 66 ⌝ }
-{
-    let blues = rows::count(row, 6, 7) + rows::count(row, 7, 7);
-    let family = rows::count(row, 8, 7) + rows::count(row, 9, 7);
-    10 + 2 * (blues + family)
-}
-
-// A list of which the count stands at `counted` and the pairs from `at` on. Numbers of the row fill the
-// places past the count.
-fn blues_at(row: &[i32], counted: usize, at: usize) -> Blues
-    requires { ⌜ at ≤ 100 ⌝ }
-    ensures { λ r. ⌜ r .count ≤ 7 ⌝ }
-{
-    let pairs = [
-        pair_at(row, at),
-        pair_at(row, at + 2),
-        pair_at(row, at + 4),
-        pair_at(row, at + 6),
-        pair_at(row, at + 8),
-        pair_at(row, at + 10),
-        pair_at(row, at + 12),
-    ];
-    Blues {
-        pairs,
-        count: rows::count(row, counted, 7),
-    }
-}
-
-fn pair_at(row: &[i32], at: usize) -> Blue
-    requires { ⌜ at ≤ 200 ⌝ }
-{
-    Blue {
-        bottom: rows::fixed(row, at),
-        top: rows::fixed(row, at + 1),
-    }
 }

@@ -2,9 +2,8 @@
 use crate::edges;
 use crate::map_rows;
 use crate::maps;
-use crate::rows;
-use crate::rows::Rows;
-use crate::states;
+use crate::tables;
+use crate::tables::Rows;
 use build::Built;
 use build::Stems;
 use build::build_initial;
@@ -17,22 +16,22 @@ use zones::HintState;
 ghost use Prim.Native.Nat.{_+_, _≤_};
 
 pub fn run() {
-    rows::run(
+    tables::run(
         b"stem 16 to 80 at scale 2048",
         Rows::Builds,
         &map_rows::STARRED,
     );
-    rows::run(b"stems and zones", Rows::Builds, &map_rows::BUILDS);
-    rows::run(b"em boxes", Rows::Builds, &map_rows::EM_BOXES);
-    rows::run(b"baselines", Rows::Builds, &map_rows::BASELINES);
-    rows::run(b"crowded stems", Rows::Builds, &map_rows::CROWDS);
-    rows::run(b"narrow counters", Rows::Builds, &map_rows::TOUCHES);
+    tables::run(b"stems and zones", Rows::Builds, &map_rows::BUILDS);
+    tables::run(b"em boxes", Rows::Builds, &map_rows::EM_BOXES);
+    tables::run(b"baselines", Rows::Builds, &map_rows::BASELINES);
+    tables::run(b"crowded stems", Rows::Builds, &map_rows::CROWDS);
+    tables::run(b"narrow counters", Rows::Builds, &map_rows::TOUCHES);
 }
 
 // A row: a scale and parameters, stems, the initial map's edges, and what two masks make of them.
 pub fn build_agrees(row: &[i32]) -> bool {
-    let state = states::state_of(row);
-    let at = states::after_pairs(row);
+    let state = rows::state(row);
+    let at = rows::after_pairs(row, 7);
     let stems = stems_at(row, at);
     let initial = initial_map(state, stems);
     let edges = after_stems(row, at);

@@ -1,8 +1,6 @@
 // A map's edges and the heights that it maps, against a row.
-use crate::rows;
 use hintmap::HintMap;
 use stems::Hint;
-use stems::Kind;
 ghost use Prim.Native.Nat.{_+_, _≤_};
 
 // From `at` on: the count of edges, and seven numbers for each.
@@ -36,7 +34,7 @@ fn edge_agrees(edge: Hint, row: &[i32], at: usize) -> bool
     requires { ⌜ at ≤ 2000 ⌝ }
 {
     let kind = edge.kind;
-    if number_of(kind) != rows::number(row, at) {
+    if rows::kind_number(kind) != rows::number(row, at) {
         return false;
     }
     if edge.locked != rows::flag(row, at + 1) {
@@ -62,16 +60,6 @@ fn line_agrees(edge: Hint, row: &[i32], at: usize) -> bool
         return false;
     }
     edge.scale.bits == rows::number(row, at + 2)
-}
-
-fn number_of(kind: Kind) -> i32 {
-    match kind {
-        Kind::Absent => 0,
-        Kind::GhostBottom => 1,
-        Kind::GhostTop => 2,
-        Kind::PairBottom => 3,
-        Kind::PairTop => 4,
-    }
 }
 
 // From `at` to the end: a count of heights, and for each the height and where the map puts it.

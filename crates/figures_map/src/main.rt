@@ -4,10 +4,8 @@ mod builds;
 mod edges;
 mod map_rows;
 mod maps;
-mod report;
 mod room;
-mod rows;
-mod states;
+mod tables;
 
 fn main() {
     room::run();

@@ -1,8 +1,8 @@
 // Maps built edge by edge, run on the rows of `map_rows`.
 use crate::edges;
 use crate::map_rows;
-use crate::rows;
-use crate::rows::Rows;
+use crate::tables;
+use crate::tables::Rows;
 use fixed::Fixed;
 use hintmap::HintMap;
 use stems::Hint;
@@ -10,7 +10,7 @@ use stems::StemHint;
 ghost use Prim.Native.Nat.{_+_, _≤_};
 
 pub fn run() {
-    rows::run(b"maps edge by edge", Rows::Maps, &map_rows::MAPS);
+    tables::run(b"maps edge by edge", Rows::Maps, &map_rows::MAPS);
 }
 
 // A row: a scale, 1 if the initial map is given, the stems of that map and those of the map; the map's

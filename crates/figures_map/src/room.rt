@@ -1,6 +1,5 @@
 // '95 edges: a single enters, a pair is dropped' (01, "Marked figures"), with 94 and 96 edges beside it.
 use crate::maps;
-use crate::report;
 use fixed::Fixed;
 use hintmap::HintMap;
 use stems::StemHint;
@@ -13,7 +12,7 @@ pub fn run() {
     let few = differs(94, pair, 96) + differs(94, single, 95);
     let one_left = differs(95, pair, 95) + differs(95, single, 96);
     let full = differs(96, pair, 96) + differs(96, single, 96);
-    report::counts(b"room for edges", 6, few + one_left + full);
+    rows::counts(b"room for edges", 6, few + one_left + full);
 }
 
 // 1 if a map of so many edges has another number of them than expected once the stem comes, or else 0.

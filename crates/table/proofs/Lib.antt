@@ -1,0 +1,4 @@
+pub mod Rooms
+pub mod Params
+pub mod Faults
+pub mod Demand1

@@ -28,7 +28,7 @@ returns c =
     let s = r .before .before .before in
     let a = s .args in
     drawn-called (a .state) (a .drawing) _ (r .ready .ensures ∙ point-hints (a .state) (a .drawing) (a .path) (s .pre .1))
-    (point-stroke (a .state) (a .drawing) (a .path) (s .pre .1) (r .ready .ensures)) (w .draw .ensures) (c .settle .ensures)
+    (point-stroke (a .state) (a .drawing) (a .path) (r .ready .ensures)) (w .draw .ensures) (c .settle .ensures)
 
 pub by-path-spec : {M : Type 1} → statement M
 by-path-spec =

@@ -11,16 +11,17 @@ stroke-requires c κs = search needs
 
 put-requires : tie.Need-put-requires
 put-requires c κs =
-    let a = c .before .before .before .args in
-    rw (c .before .before .stroke .ensures) (path-short (a .map) (a .scale) (a .pen) (a .path))
+    let s = c .before .before .before in
+    let a = s .before .args in
+    rw (s .stroke .ensures) (path-short (a .map) (a .scale) (a .pen) (a .path))
 
 same-length : tie.Need-same-length
 same-length c = search needs
 
 returns : tie.Need-returns
 returns c =
-    let r = c .before .before .before in
-    put-drew _ _ _ _ true (r .before .before .before .stroke .ensures) (rw (c .before .if1 .taken) at (r .put .ensures))
+    let r = c .before .before in
+    put-drew _ _ _ _ true (r .before .before .before .before .stroke .ensures) (rw (c .if1 .taken) at (r .put .ensures))
 
 same-length-2 : tie.Need-same-length-2
 same-length-2 c = search needs
@@ -28,7 +29,7 @@ same-length-2 c = search needs
 returns-2 : tie.Need-returns-2
 returns-2 c =
     let r = c .before .before in
-    put-drew _ _ _ _ false (r .before .before .before .stroke .ensures) (rw (c .if1 .left) at (r .put .ensures))
+    put-drew _ _ _ _ false (r .before .before .before .before .stroke .ensures) (rw (c .if1 .left) at (r .put .ensures))
 
 pub draw-spec : {M : Type 1} → statement M
 draw-spec =

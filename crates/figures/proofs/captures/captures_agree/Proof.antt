@@ -10,8 +10,8 @@ Inv-loop row state at stems i₀ i = i ≤ stems
 abbrev μ-loop : tie.MeasureT-loop
 μ-loop row state at stems i₀ i = stems - i
 
-state-of-requires : tie.Need-state-of-requires Inv-loop μ-loop
-state-of-requires c κs = search needs
+state-requires : tie.Need-state-requires Inv-loop μ-loop
+state-requires c κs = search needs
 
 after-pairs-requires : tie.Need-after-pairs-requires Inv-loop μ-loop
 after-pairs-requires c κs = search needs
@@ -67,7 +67,7 @@ captures-agree-spec =
     (tie.spec
     Inv-loop
     μ-loop
-    state-of-requires
+    state-requires
     after-pairs-requires
     count-requires
     add-if1

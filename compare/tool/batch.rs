@@ -1,0 +1,146 @@
+//! Comparisons with commands that speak the batch protocol or that read one script.
+
+use crate::reduce;
+use crate::scripts::Tally;
+use crate::sides::{self, Answer, Side};
+use generate::parts::join;
+use generate::{batch, case, Case};
+use std::io::{BufReader, BufWriter, Read, Write};
+use std::process::{Child, Command, Stdio};
+use std::time::Instant;
+
+fn words_of(bytes: &[u8]) -> impl Iterator<Item = i32> + '_ {
+    bytes.chunks_exact(4).map(|four| i32::from_le_bytes([four[0], four[1], four[2], four[3]]))
+}
+
+fn start(command: &str, rest: &[&str]) -> Child {
+    Command::new(command).args(rest).stdin(Stdio::piped()).stdout(Stdio::piped()).spawn().unwrap_or_else(|error| {
+        eprintln!("compare: {command}: {error}");
+        std::process::exit(2)
+    })
+}
+
+/// Keeps the counts, and shows the first cases on which the other side differs from the model.
+struct Judge {
+    tally: Tally,
+    oracle: Side,
+    differ: u64,
+    began: Instant,
+}
+
+impl Judge {
+    fn new() -> Judge {
+        Judge {
+            tally: Tally::new(vec!["other/model", "other/Rust", "model/Rust"]),
+            oracle: sides::oracle(),
+            differ: 0,
+            began: Instant::now(),
+        }
+    }
+
+    fn judge(&mut self, case: &Case, number: u64, other: &Answer, ours: &Answer, theirs: &Answer) {
+        let differ = [other != ours, other != theirs, ours != theirs];
+        self.tally.note(case.family, other.number, &differ);
+        if differ[0] {
+            self.differ += 1;
+            if self.differ <= 5 {
+                println!("Case {number} differs from the model:");
+                println!("  other     answers {} at {}: {}", other.number, other.place, join(&other.words));
+                reduce::show(case, &[sides::MODEL, self.oracle]);
+            }
+        }
+    }
+
+    fn end(&self, count: u64) -> bool {
+        self.tally.print();
+        println!("{count} scripts in {:.1} s.", self.began.elapsed().as_secs_f64());
+        self.differ == 0
+    }
+}
+
+/// Sends the cases to a command that speaks the batch protocol and hands its answers on until told to stop.
+fn each_answer(seed: u64, count: u64, command: &str, rest: &[&str], mut take: impl FnMut(u64, Case, Answer) -> bool) -> bool {
+    let mut child = start(command, rest);
+    let to = child.stdin.take().unwrap();
+    let mut from = BufReader::new(child.stdout.take().unwrap());
+    let writer = std::thread::spawn(move || {
+        let mut to = BufWriter::new(to);
+        for number in 0..count {
+            if to.write_all(&batch::request(&case(seed, number))).is_err() {
+                return;
+            }
+        }
+    });
+    let mut whole = true;
+    for number in 0..count {
+        let case = case(seed, number);
+        let mut bytes = vec![0; 8 + 4 * case.room];
+        if from.read_exact(&mut bytes).is_err() {
+            println!("The other side stopped at case {number}.");
+            whole = false;
+            break;
+        }
+        let mut words = words_of(&bytes);
+        let answer = Answer { number: words.next().unwrap(), place: words.next().unwrap(), words: words.collect() };
+        if !take(number, case, answer) {
+            break;
+        }
+    }
+    drop(from);
+    let _ = writer.join();
+    let _ = child.wait();
+    whole
+}
+
+/// Compares such a command with the model and the Rust.
+pub fn against(seed: u64, count: u64, command: &str, rest: &[&str]) -> bool {
+    let mut judge = Judge::new();
+    let whole = each_answer(seed, count, command, rest, |number, case, other| {
+        let (ours, theirs) = (sides::MODEL.answer(&case), judge.oracle.answer(&case));
+        judge.judge(&case, number, &other, &ours, &theirs);
+        true
+    });
+    judge.end(count) && whole
+}
+
+/// Says on which case such a command first differs from the Rust or stops, change request 4 apart.
+pub fn detect(seed: u64, count: u64, command: &str, rest: &[&str]) -> bool {
+    let mut found = false;
+    let oracle = sides::oracle();
+    let whole = each_answer(seed, count, command, rest, |number, case, other| {
+        let theirs = oracle.answer(&case);
+        found = other != theirs && sides::MODEL.answer(&case) == theirs;
+        if found {
+            println!("seen at case {number}, in {}", generate::FAMILIES[case.family]);
+        }
+        !found
+    });
+    found || !whole
+}
+
+/// Compares a program that reads one script and lends 16,384 words with the model and the Rust.
+pub fn program(seed: u64, count: u64, command: &str, rest: &[&str]) -> bool {
+    let mut judge = Judge::new();
+    for number in 0..count {
+        let case = Case { room: 16_384, ..case(seed, number) };
+        let mut child = start(command, rest);
+        // A program that has read enough of an overlong script may stop reading.
+        let _ = child.stdin.take().unwrap().write_all(&case.script);
+        let output = child.wait_with_output().expect("the program's output can be read");
+        let mut words = words_of(&output.stdout);
+        let other = Answer {
+            number: words.next().unwrap_or(-1),
+            place: words.next().unwrap_or(-1),
+            words: words.collect(),
+        };
+        let written = |side: Side| {
+            let mut answer = side.answer(&case);
+            let length = if answer.number == 0 { 4 + answer.words[3] as usize } else { 0 };
+            answer.words.truncate(length);
+            answer
+        };
+        let (ours, theirs) = (written(sides::MODEL), written(judge.oracle));
+        judge.judge(&case, number, &other, &ours, &theirs);
+    }
+    judge.end(count)
+}

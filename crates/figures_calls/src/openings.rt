@@ -1,0 +1,21 @@
+// Opening a drawing by what a row gives.
+use drawing::Opened;
+use drawing::Opening;
+use drawing::open;
+ghost use Rattle.drawing.specs.Hints.{Kept};
+
+// A drawing at the row's scale and parameters, or the one beside a refusal. A list has up to eight pairs.
+pub fn opened_by(row: &[i32]) -> Opened
+    ensures { λ r. ⌜ Kept (r .state) (r .drawing .hints) ⌝ }
+{
+    open(rows::params(row, 8), rows::fixed(row, 1))
+}
+
+// The answer's number in 01's table.
+pub fn number_of(answer: Opening) -> i32 {
+    match answer {
+        Opening::Ok => 0,
+        Opening::BadScale => 2,
+        Opening::BadBlues => 3,
+    }
+}

@@ -1,0 +1,53 @@
+// A row and its numbers.
+use fixed::Fixed;
+ghost use Prim.Native.Nat.{_≤_, _<_};
+ghost use lib.ListN.{length};
+
+// Where the row at `at` ends, within the table. A row has at least its count.
+pub fn end_of_row(table: &[i32], at: usize) -> usize
+    requires { ⌜ at < length (now table) ⌝ }
+    ensures { λ r. ⌜ (at < r) × (r ≤ length (now (table .entry))) ⌝ }
+{
+    let n = count(table, at, table.len() - at);
+    if n == 0 {
+        return at + 1;
+    }
+    at + n
+}
+
+// A number of the row, or 0 past its end.
+pub fn number(row: &[i32], at: usize) -> i32 {
+    if at < row.len() {
+        return row[at];
+    }
+    0
+}
+
+pub fn flag(row: &[i32], at: usize) -> bool {
+    number(row, at) == 1
+}
+
+pub fn fixed(row: &[i32], at: usize) -> Fixed {
+    Fixed {
+        bits: number(row, at),
+    }
+}
+
+// A number of the row as a count, at most so many.
+pub fn count(row: &[i32], at: usize, most: usize) -> usize
+    ensures { λ r. ⌜ r ≤ most ⌝ }
+{
+    let n = whole(number(row, at));
+    if most < n {
+        return most;
+    }
+    n
+}
+
+// A number without a sign, 0 for one below 0.
+fn whole(n: i32) -> usize {
+    if n < 0 {
+        return 0;
+    }
+    n as usize
+}
