@@ -22,8 +22,8 @@ use Rattle.script.specs.Script.{commandsIn, checkRows, zonesOf, stepsIn,
 use Rattle.script.proofs.Passed.{Passed}
 
 -- an answer numbered from 1 refuses
-pub refused : (a : Answer) → (numberOf a ≡ 0 → ⊥) → refuses a ≡ true
-refused a h = rw (ne-eqb (numberOf a) 0 h)
+pub refused : (a : Answer) → 0 < numberOf a → refuses a ≡ true
+refused a h = rw (ne-eqb (numberOf a) 0 (omega arith))
 
 pub taken : (a : Answer) → numberOf a ≡ 0 → refuses a ≡ false
 taken a h = rw (eq-eqb (numberOf a) 0 h)

@@ -16,13 +16,13 @@ use Rattle.script.proofs.checking.check.Statement.{statement}
 use Rattle.script.proofs.checking.check.Tie as tie
 
 header-ok : (c : tie.Else1) → firstOf (headerRows (c .before .before .before .before .args .script .now)) ≡ Ok
-header-ok c = is-ok _ (sym (ap numberOf (c .before .before .check-header .ensures)) ∙ sym (c .before .code .ensures) ∙ c .if1 .left)
+header-ok c = is-ok _ (omega (arith, ap numberOf (c .before .before .check-header .ensures), c .before .code .ensures, c .if1 .left))
 
 header-fine : (c : tie.Else1) → Fine (c .before .before .before .before .args .script .now)
 header-fine c = fine _ (header-ok c)
 
 params-ok : (c : tie.Else2) → firstOf (paramRows (c .before .before .before .before .before .before .before .args .script .now)) ≡ Ok
-params-ok c = is-ok _ (sym (ap numberOf (c .before .before .check-params .ensures)) ∙ sym (c .before .code2 .ensures) ∙ c .if2 .left)
+params-ok c = is-ok _ (omega (arith, ap numberOf (c .before .before .check-params .ensures), c .before .code2 .ensures, c .if2 .left))
 
 check-header-requires : tie.Need-check-header-requires
 check-header-requires c κs = search needs

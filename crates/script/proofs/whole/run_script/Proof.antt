@@ -28,7 +28,7 @@ use Rattle.script.proofs.whole.run_script.Tie as tie
 
 -- a script without a fault passes all tests
 no-fault : (c : tie.Else1) → refuses (firstOf (checkRows (c .before .before .before .before .args .script .now))) ≡ false
-no-fault c = taken (firstOf (checkRows (c .before .before .before .before .args .script .now))) (sym (ap numberOf (c .before .before .check .ensures)) ∙ sym (c .before .code .ensures) ∙ c .if1 .left)
+no-fault c = taken (firstOf (checkRows (c .before .before .before .before .args .script .now))) (omega (arith, ap numberOf (c .before .before .check .ensures), c .before .code .ensures, c .if1 .left))
 
 all-ok : (c : tie.Else1) → firstOf (checkRows (c .before .before .before .before .args .script .now)) ≡ Ok
 all-ok c = not-refused (firstOf (checkRows (c .before .before .before .before .args .script .now))) (no-fault c)
@@ -51,7 +51,7 @@ module _ (c : tie.After-run-commands) where
   fit = ran script out (no-fault begun) enough
 
   ended : Ended (outcomeOf fit (drop 4 out)) (c .run-commands .result) (c .run-commands .last .1 .0)
-  ended = rw (lent out 4) at (c .run-commands .ensures)
+  ended = rw lent at (c .run-commands .ensures)
 
   answer-is : c .run-commands .result .answer ≡ fit .said
   answer-is = ap (λ (r : Ran). r .answer) (ended .said)
@@ -89,7 +89,7 @@ returns c =
     let k = c .before .before in
     let s = k .before .before .args in
     let n = ap numberOf (k .check .ensures) in
-    rw (k .check .ensures) (by-fault (s .script .now) (s .out .now) (refused (firstOf (checkRows (s .script .now))) (λ z. c .if1 .taken (c .before .code .ensures ∙ n ∙ z))))
+    rw (k .check .ensures) (by-fault (s .script .now) (s .out .now) (refused (firstOf (checkRows (s .script .now))) (omega (arith, n, c .before .code .ensures, c .if1 .taken))))
 
 natural-requires : tie.Need-natural-requires
 natural-requires c κs = omega (arith, passed _ (all-ok (c .before)) .fine .enough)
@@ -122,7 +122,7 @@ returns-3 : tie.Need-returns-3
 returns-3 c =
     let r = c .before .before .before in
     let n = ap numberOf (answer-is r) in
-    rw (answer-is r, home r) (by-room (script r) (out r) (no-fault (begun r)) (enough r) (refused (fit r .said) (λ z. c .if3 .taken (c .before .code2 .ensures ∙ n ∙ z))))
+    rw (answer-is r, home r) (by-room (script r) (out r) (no-fault (begun r)) (enough r) (refused (fit r .said) (omega (arith, n, c .before .code2 .ensures, c .if3 .taken))))
 
 sub-count-records : tie.Need-sub-count-records
 sub-count-records c = search needs
@@ -159,7 +159,7 @@ returns-4 c =
     let k = c .before .before .before .before in
     let r = k .before .before .before .before .before .before in
     let e = k .before .before .before in
-    let ok = taken (fit r .said) (sym (ap numberOf (answer-is r)) ∙ sym (e .before .code2 .ensures) ∙ e .if3 .left) in
+    let ok = taken (fit r .said) (omega (arith, ap numberOf (answer-is r), e .before .code2 .ensures, e .if3 .left)) in
     let ws = fit r .words in
     let b = by-run (script r) (out r) (no-fault (begun r)) (enough r) ok in
     record {

@@ -46,7 +46,7 @@ unfolding written
 returns c =
     let a : c .args .records < 2147483648 = omega arith in
     let b : c .args .words < 2147483648 = omega arith in
-    rw (toZ-pos w32 a, toZ-pos w32 b) (four (c .args .out .now) _ _ _ _ (c .pre .0))
+    simp (toZ-pos w32 a, toZ-pos w32 b) (four (c .args .out .now) _ _ _ _ (c .pre .0))
 
 pub seal-spec : {M : Type 1} → statement M
 seal-spec =
