@@ -1,1 +1,2 @@
 pub mod Demand1
+pub mod Lone
