@@ -30,7 +30,7 @@ validMap m = record { edges = m .edges; len = m .len; «is_valid» = true; scale
 abbrev pub view : HintMap → List Hint
 view m = take (m .len) (m .edges)
 
--- one more where the test held, and else none
+-- a count of leading edges: one more where the test holds of the first, and 0 where it does not
 abbrev pub countBy : Bool → ℕ → ℕ
 countBy true n = suc n
 countBy false n = 0
@@ -96,12 +96,12 @@ mapOf (e ∷ es) s h =
 
 -- ---- the tests beside a place
 
--- no edge at the front of the list is one that f names
+-- the first edge of the list, if there is one, is not one that f names
 unfoldable pub ahead : (Hint → Bool) → List Hint → Bool
 ahead f [] = true
 ahead f (x ∷ xs) = not (f x)
 
--- no edge before a place is
+-- nor is the edge directly before a place, if there is one
 unfoldable pub behind : (Hint → Bool) → List Hint → ℕ → Bool
 behind f es zero = true
 behind f es (suc i) = not (f (getD es i noHint))

@@ -22,6 +22,7 @@ abbrev pub fitBy : Bool → Step → Fitted → Fitted
 fitBy true t rest = record { said = rest .said; words = t .words ++ rest .words }
 fitBy false t rest = record { said = NoRoom (t .place); words = [] }
 
+-- what fits into a room, command by command
 unfoldable pub fitted : ℕ → List Step → Fitted
 fitted room [] = record { said = Ok; words = [] }
 fitted room (t ∷ ts) = fitBy (leb (length (t .words)) room) t (fitted (room - length (t .words)) ts)

@@ -29,7 +29,7 @@ use Rattle.run.specs.Room.{Step, Fitted, fitted}
 abbrev pub maskAt : List ℕ → ℕ → ℕ → ℕ → HintMask
 maskAt s from start len = maskOf (take len (drop (from + start) s))
 
--- a script with a bad command is never run
+-- the call that a marking is; a script with a bad one is never run
 abbrev pub markCall : List ℕ → ℕ → Marking → Call
 markCall s from Bad = close
 markCall s from (Stem min max) = stem min max

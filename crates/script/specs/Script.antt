@@ -23,7 +23,7 @@ use Rattle.run.specs.Room.{Step, Fitted, fitted}
 use Rattle.run.specs.Run.{stepsOf}
 
 -- ---- the tests
--- the commands: word 5 words from word 4 on
+-- the commands: as many words as word 5 says, from the offset in word 4 on
 abbrev pub commandsIn : List ℕ → List Placed
 commandsIn s = commandsOf (rawAt s 4) (drop (4 * rawAt s 4) s) (rawAt s 5)
 
@@ -36,7 +36,7 @@ checkRows s = headerRows s ++ (paramRows s ++ commandRows (rawAt s 7) (commandsI
 unfoldable pub zonesOf : List ℕ → HintState
 zonesOf s = stateOf (paramsOf s) (numberAt s 1)
 
--- the record words of each command, over a new drawing; the mask bytes start at word 6
+-- the record words of each command, over a new drawing; the mask bytes start at the offset in word 6
 unfoldable pub stepsIn : List ℕ → List Step
 stepsIn s = stepsOf (zonesOf s) s (4 * rawAt s 6) (newDrawing (numberAt s 1)) (commandsIn s)
 
@@ -50,7 +50,7 @@ pub record Result : Type 0 where
   pub answer : Answer
   pub left : List ℤ
 
--- on OK words past the records stand as lent; NO_ROOM in a run keeps earlier commands' records from word 4, and every other word stands
+-- NO_ROOM in a run keeps earlier commands' records from word 4, and every other word stands; on OK words past the result stand as lent
 abbrev pub leftBy : Bool → List ℤ → List ℤ → List ℤ
 leftBy true ws out = take 4 out ++ written ws (drop 4 out)
 leftBy false ws out = written (resultWords ws) out

@@ -89,7 +89,7 @@ noHint =
       scale = fromBits (pos 0);
     }
 
--- the edge at another device height, and locked there
+-- the edge at another device height, locked or not as l says
 abbrev pub withDevice : Bool → Hint → Fixed → Hint
 withDevice l e d =
     record {

@@ -34,7 +34,7 @@ unfoldable pub firstHolding : Fixed → Hint → Hint → List BlueZone → Held
 firstHolding fuzz b t [] = Free
 firstHolding fuzz b t (z ∷ zs) = firstBy (holds fuzz b t z) z (firstHolding fuzz b t zs)
 
--- where the held edge goes: with suppression to the zone's device flat edge; else it rounds, and at blue shift or more from the zone's other edge by at least 1.0 past that flat edge
+-- where the held edge goes: with suppression to the zone's device flat edge; else it rounds, and where it lies blue shift or more under a bottom zone's top, or over a top zone's bottom, it ends at least 1.0 past that flat edge
 abbrev pub goalBy : Bool → Bool → Fixed → Fixed → Fixed → Fixed
 goalBy true far flat rounded past = flat
 goalBy false true flat rounded past = past

@@ -64,7 +64,7 @@ bluesZones (b ∷ bs) = zoneOf true b ∷ map (zoneOf false) bs
 unfoldable pub kept : Blues → Blues → List BlueZone
 kept blues others = bluesZones (sift (listOf blues)) ++ map (zoneOf true) (sift (take 5 (listOf others)))
 
--- the greatest height of some zones, or 0
+-- the greatest height of some zones, or g if that is greater
 unfoldable pub greatestFrom : Fixed → List BlueZone → Fixed
 greatestFrom g [] = g
 greatestFrom g (z ∷ zs) = greatestFrom (maxF g (subF (z .«cs_top_edge») (z .«cs_bottom_edge»))) zs
@@ -145,7 +145,7 @@ deviceFlat s boost z = withDeviceFlat z (roundF (addF (mulF (z .«cs_flat_edge»
 abbrev pub noZone : BlueZone
 noZone = zoneOf false noBlue
 
--- some zones, at most twelve, and the greatest height
+-- some zones, at most twelve, with blank ones behind them; and the same with their count and greatest height
 abbrev pub filled : List BlueZone → List BlueZone
 filled zs = zs ++ replicate (12 - length zs) noZone
 
