@@ -4,7 +4,7 @@ use mathlib.Core.List.{List, [], _∷_}
 use Prim.Native.Nat.{ℕ, zero, suc, _+_}
 use lib.Dec.{eqb, ltb}
 use Rattle.pen.specs.declared.strokes.Point.{Point}
-use Rattle.drawing.specs.declared.path.Path.the-variants.{Move, Line, Curve, Finish}
+use Rattle.hints.specs.declared.path.Path.the-variants.{Move, Line, Curve, Finish}
 use Rattle.words.specs.Words.{rawAt, numberAt}
 use Rattle.commands.specs.declared.reading.Marking.the-variants.{Bad, Stem, Mask, Counter, Clear, Close}
 use Rattle.commands.specs.declared.reading.Command.{Command}

@@ -26,13 +26,16 @@ use Rattle.build.proofs.Sound.{initial-good, built-good, built-scale}
 use Rattle.pen.specs.declared.strokes.Point.{Point}
 use Rattle.pen.specs.Strokes.{closingWords, moveOf}
 use Rattle.pen.proofs.Words.{words-emitted}
-use Rattle.drawing.specs.declared.hints.Hints.{Hints}
+use Rattle.hints.specs.declared.hints.Hints.{Hints}
+use Rattle.hints.specs.declared.path.Path.the-variants.{Move}
 use Rattle.drawing.specs.declared.calls.Drawing.{Drawing}
-use Rattle.drawing.specs.Hints.{Kept, newHints, stemBy, withStem, maskBy, withMask, initialBy, withInitial, countered, readyBy, readyOf, devicePoint}
-use Rattle.drawing.specs.Calls.{Call, stem, hintMask, counterMask, clear, move, line, curve, close, finish, hintsOf, wordsFor}
+use Rattle.hints.specs.Hints.{Kept, newHints, stemBy, withStem, maskBy, withMask, initialBy, withInitial, countered, readyBy, readyOf, devicePoint}
+use Rattle.drawing.specs.Calls.{Call, stem, hintMask, counterMask, clear, close, draw, readyFor, hintsOf, wordsFor}
 use Rattle.drawing.specs.Open.{countsFit, openBy, openOf}
 use Rattle.drawing.specs.Reached.{Reached, opened, called, roomBy, edge, Sound, OneStem, Carried}
-use Rattle.drawing.proofs.Kept.{kept-new, kept-stem, kept-mask, kept-counter, kept-ready, kept-open}
+use Rattle.hints.specs.Path.{hasPoint}
+use Rattle.hints.proofs.Kept.{kept-new, kept-stem, kept-mask, kept-counter, kept-ready}
+use Rattle.drawing.proofs.Kept.{kept-open}
 
 -- ---- a map in order, with its stems whole, is sound
 one-stem : (m : HintMap) (i j : ℕ) → Pair (edge m i) (edge m j) → OneStem m i j
@@ -113,17 +116,18 @@ module _ (st : HintState) (h : Hints) (f : Fine st h) where
           let j = initialBy (h .initial .«is_valid») st h in
           record { kept = k; initial = initial-by (h .initial .«is_valid») .0; map = built-good st (j .mask) (j .initial) (j .stems); scale = built-scale st (j .mask) (j .initial) (j .stems) }
 
+  fine-path : (points : Bool) → Fine st (readyFor points st h)
+  fine-path true = fine-ready
+  fine-path false = f
+
 -- every call keeps it
 fine-call : (st : HintState) (h : Hints) → Fine st h → (c : Call) → Fine st (hintsOf st h c)
 fine-call st h f (stem min max) = fine-stem st h f min max
 fine-call st h f (hintMask m) = fine-mask st h f m
 fine-call st h f (counterMask m) = fine-counter st h f m
 fine-call st h f clear = fine-new st (f .kept .zones)
-fine-call st h f (move p) = fine-ready st h f
-fine-call st h f (line p) = fine-ready st h f
-fine-call st h f (curve p q r) = fine-ready st h f
 fine-call st h f close = f
-fine-call st h f finish = f
+fine-call st h f (draw p) = fine-path st h f (hasPoint p)
 
 -- opening gives the scale of its zones to the drawing
 opened-by : (a b : Bool) (p : HintParams) (s : Fixed) → openBy a b p s .drawing .hints ≡ newHints (openBy a b p s .state .scale)
@@ -160,7 +164,7 @@ drawn-scale r = fine r .scale
 
 -- what a move writes of its point: the height as the current map carries it, built first if it is invalid, with the low 10 bits cleared
 pub moved-height : (st : HintState) (d : Drawing) (p : Point) →
-    wordsFor st d (move p) ≡ closingWords (d .pen) ++ pos 1 ∷ truncF (mulF (p .x) (st .scale)) .bits ∷ truncF (mapOf (view (readyOf st (d .hints) .map)) (readyOf st (d .hints) .map .scale) (p .y)) .bits ∷ []
+    wordsFor st d (draw (Move p)) ≡ closingWords (d .pen) ++ pos 1 ∷ truncF (mulF (p .x) (st .scale)) .bits ∷ truncF (mapOf (view (readyOf st (d .hints) .map)) (readyOf st (d .hints) .map .scale) (p .y)) .bits ∷ []
 unfolding moveOf devicePoint
 moved-height st d p = words-emitted _
 

@@ -1,93 +1,26 @@
--- What the hints of every drawing have is kept by all that is done to them. Assumes nothing.
-use mathlib.Core.Path.{_≡_, refl}
-use mathlib.Core.Bool.{Bool, true, false, _&&_, not}
-use Prim.Native.Nat.{_≤_}
+-- What the hints of every drawing have: an opened drawing has it, and every call keeps it, with room or without. Assumes nothing.
+use mathlib.Core.Path.{_≡_, refl, sym, subst}
+use mathlib.Core.Bool.{Bool, true, false, _&&_}
+use mathlib.Core.List.{List}
 use native.Mathlib.Omega.{arith}
-use lib.Dec.{ltb, leb}
-use lib.IntN.{pos}
-use borrow.Author.Tests.{ltb-true, leb-true}
+use lib.Dec.{leb}
+use lib.IntN.{ℤ, pos}
+use borrow.Author.Tests.{leb-true}
 use Rattle.fixed.specs.declared.Fixed.{Fixed}
 use Rattle.fixed.specs.Fixed.{fromBits, lessF}
-use Rattle.stems.specs.declared.mask.HintMask.{HintMask}
-use Rattle.stems.specs.Mask.{sameMask}
 use Rattle.zones.specs.declared.state.HintParams.{HintParams}
 use Rattle.zones.specs.declared.state.HintState.{HintState}
 use Rattle.zones.specs.State.{Counted, stateOf}
 use Rattle.zones.proofs.Keep.{state-count}
-use Rattle.hintmap.specs.declared.map.HintMap.{HintMap}
-use Rattle.hintmap.specs.Map.{view}
 use Rattle.hintmap.proofs.Tests.{both}
-use Rattle.build.specs.declared.place.Stems.{Stems}
-use Rattle.build.specs.Build.{initialOf, builtOf}
-use Rattle.build.proofs.Sound.{initial-good, built-good}
-use Rattle.build.proofs.Saved.{saved-keeps}
-use Rattle.drawing.specs.declared.hints.Hints.{Hints}
-use Rattle.drawing.specs.Hints.{Kept, newHints, stemBy, withStem, maskBy, withMask, initialBy, withInitial, countered, readyBy, readyOf}
+use Rattle.pen.specs.Records.{fits}
+use Rattle.hints.specs.Hints.{Kept, newHints}
+use Rattle.hints.specs.Path.{hasPoint}
+use Rattle.hints.proofs.Kept.{kept-new, kept-stem, kept-mask, kept-counter, kept-ready}
+use Rattle.drawing.specs.declared.calls.Drawing.{Drawing}
+use Rattle.drawing.specs.declared.calls.After.{After}
+use Rattle.drawing.specs.Calls.{Call, stem, hintMask, counterMask, clear, close, draw, readyFor, nextOf, wordsFor, afterBy, Called}
 use Rattle.drawing.specs.Open.{countsFit, refusedState, openBy, openOf}
-
--- an initial map has at most 96 edges
-pub initial-len : (st : HintState) (ss : Stems) → initialOf st ss .len ≤ 96
-initial-len st ss = initial-good st ss .within
-
--- so has every other map that is built
-pub built-len : (st : HintState) (m : HintMask) (i : HintMap) (ss : Stems) → builtOf st m i ss .map .len ≤ 96
-built-len st m i ss = built-good st m i ss .within
-
--- a build declares no stem
-pub built-count : (st : HintState) (m : HintMask) (i : HintMap) (ss : Stems) → builtOf st m i ss .stems .count ≡ ss .count
-unfolding builtOf
-built-count st m i ss = saved-keeps (view (builtOf st m i ss .map)) ss .declared
-
--- new hints have it
-pub kept-new : (st : HintState) (s : Fixed) → st .«zone_count» ≤ 12 → Kept st (newHints s)
-kept-new st s z = record { stems = omega arith; initial = omega arith; map = omega arith; zones = z }
-
-module _ (st : HintState) (h : Hints) (k : Kept st h) where
-  -- a stem is taken only where there is room
-  pub kept-stem : (min max : Fixed) → Kept st (withStem min max h)
-  unfolding withStem
-  kept-stem min max = go (h .map .«is_valid») (ltb (h .stems .count) 96) refl
-    where
-      go : (valid room : Bool) → ltb (h .stems .count) 96 ≡ room → Kept st (stemBy (not valid && room) min max h)
-      go true room q = k
-      go false false q = k
-      go false true q = record { stems = omega (arith, ltb-true (h .stems .count) 96 q); initial = k .initial; map = k .map; zones = k .zones }
-
-  -- a mask changes no length
-  pub kept-mask : (m : HintMask) → Kept st (withMask m h)
-  unfolding withMask
-  kept-mask m = go (sameMask m (h .mask))
-    where
-      go : (same : Bool) → Kept st (maskBy same m h)
-      go true = k
-      go false = record { stems = k .stems; initial = k .initial; map = k .map; zones = k .zones }
-
-  -- an initial map, where it is made, has room
-  pub kept-initial : Kept st (withInitial st h)
-  unfolding withInitial
-  kept-initial = go (h .initial .«is_valid»)
-    where
-      go : (valid : Bool) → Kept st (initialBy valid st h)
-      go true = k
-      go false = record { stems = k .stems; initial = initial-len st (h .stems); map = k .map; zones = k .zones }
-
-  -- a build leaves as many stems as there were
-  stems-built : (m : HintMask) → builtOf st m (withInitial st h .initial) (withInitial st h .stems) .stems .count ≤ 96
-  stems-built m = rw (built-count st m (withInitial st h .initial) (withInitial st h .stems)) (kept-initial .stems)
-
-  -- a counter mask changes no length
-  pub kept-counter : (m : HintMask) → Kept st (countered st m h)
-  unfolding countered
-  kept-counter m = record { stems = stems-built m; initial = kept-initial .initial; map = kept-initial .map; zones = k .zones }
-
-  -- a current map, where it is built, has room
-  pub kept-ready : Kept st (readyOf st h)
-  unfolding readyOf
-  kept-ready = go (h .map .«is_valid»)
-    where
-      go : (valid : Bool) → Kept st (readyBy valid st h)
-      go true = k
-      go false = record { stems = stems-built (withInitial st h .mask); initial = kept-initial .initial; map = built-len st _ _ _; zones = k .zones }
 
 -- counts that fit are those that the zones ask for
 pub counted : (p : HintParams) → countsFit p ≡ true → Counted p
@@ -110,3 +43,26 @@ kept-open p s = go (lessF s (fromBits (pos 1))) (countsFit p) refl
     go true fit q = refused
     go false false q = refused
     go false true q = kept-new (stateOf p s) s (state-count p s (counted p q .blues))
+
+module _ (st : HintState) (d : Drawing) (k : Kept st (d .hints)) where
+  -- a path call keeps it, whether it has points or not
+  kept-path : (points : Bool) → Kept st (readyFor points st (d .hints))
+  kept-path true = kept-ready st (d .hints) k
+  kept-path false = k
+
+  -- a call that is done keeps it
+  pub kept-next : (c : Call) → Kept st (nextOf st d c .hints)
+  kept-next (stem min max) = kept-stem st (d .hints) k min max
+  kept-next (hintMask m) = kept-mask st (d .hints) k m
+  kept-next (counterMask m) = kept-counter st (d .hints) k m
+  kept-next clear = kept-new st (st .scale) (k .zones)
+  kept-next close = k
+  kept-next (draw p) = kept-path (hasPoint p)
+
+  -- so does one that room decides
+  kept-after : (room : Bool) (c : Call) → Kept st (afterBy room st d c .drawing .hints)
+  kept-after true c = kept-next c
+  kept-after false c = k
+
+  pub kept-called : (c : Call) (out : List ℤ) (said : After) (left : List ℤ) → Called st d c out said left → Kept st (said .drawing .hints)
+  kept-called c out said left r = subst (λ (a : After). Kept st (a .drawing .hints)) (sym (r .answer)) (kept-after (fits (wordsFor st d c) out) c)

@@ -1,5 +1,4 @@
 pub mod Kept
-pub mod Steps
 pub mod Outcome
 pub mod Unique
 pub mod Demand3

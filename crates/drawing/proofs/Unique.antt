@@ -12,19 +12,10 @@ use Rattle.fixed.specs.declared.Fixed.{Fixed}
 use Rattle.stems.specs.declared.mask.HintMask.{HintMask}
 use Rattle.zones.specs.declared.state.HintParams.{HintParams}
 use Rattle.zones.specs.declared.state.HintState.{HintState}
-use Rattle.drawing.specs.declared.hints.Hints.{Hints}
 use Rattle.drawing.specs.declared.calls.Drawing.{Drawing}
 use Rattle.drawing.specs.declared.calls.After.{After}
 use Rattle.drawing.specs.declared.opening.Opened.{Opened}
 use Rattle.drawing.specs.Calls.{Call, Called}
-use Rattle.drawing.proofs.hints.Hints.new.Reads as new-reads
-use Rattle.drawing.proofs.hints.Hints.with_stem.Reads as with-stem-reads
-use Rattle.drawing.proofs.hints.Hints.with_mask.Reads as with-mask-reads
-use Rattle.drawing.proofs.hints.Hints.counter.Reads as counter-reads
-use Rattle.drawing.proofs.hints.Hints.ready.Reads as ready-reads
-use Rattle.drawing.proofs.path.draw as draw
-use Rattle.drawing.proofs.path.draw.Kinds as draw-kinds
-use Rattle.drawing.proofs.path.draw.Reads as draw-reads
 use Rattle.drawing.proofs.calls.hstem.Reads as hstem-reads
 use Rattle.drawing.proofs.calls.hint_mask.Reads as hint-mask-reads
 use Rattle.drawing.proofs.calls.counter_mask.Reads as counter-mask-reads
@@ -43,26 +34,6 @@ use Rattle.drawing.proofs.calls.finish as finish
 use Rattle.drawing.proofs.calls.finish.Kinds as finish-kinds
 use Rattle.drawing.proofs.calls.finish.Reads as finish-reads
 use Rattle.drawing.proofs.opening.open.Reads as open-reads
-
-pub new-unique : (κs : Lfts 0) (scale : Fixed) (r r′ : Hints) → new-reads.Post κs (scale, tt) r (scale, tt) → new-reads.Post κs (scale, tt) r′ (scale, tt) → r ≡ r′
-new-unique κs scale r r′ p q = p ∙ sym q
-
-module _ (κs : Lfts 0) (h r r′ : Hints) where
-  pub with-stem-unique : (min max : Fixed) → with-stem-reads.Post κs (h, (min, (max, tt))) r (h, (min, (max, tt))) → with-stem-reads.Post κs (h, (min, (max, tt))) r′ (h, (min, (max, tt))) → r ≡ r′
-  with-stem-unique min max p q = p ∙ sym q
-
-  pub with-mask-unique : (mask : HintMask) → with-mask-reads.Post κs (h, (mask, tt)) r (h, (mask, tt)) → with-mask-reads.Post κs (h, (mask, tt)) r′ (h, (mask, tt)) → r ≡ r′
-  with-mask-unique mask p q = p ∙ sym q
-
-  pub counter-unique : (st : HintState) (mask : HintMask) → counter-reads.Post κs (h, (st, (mask, tt))) r (h, (st, (mask, tt))) → counter-reads.Post κs (h, (st, (mask, tt))) r′ (h, (st, (mask, tt))) → r ≡ r′
-  counter-unique st mask p q = p ∙ sym q
-
-  pub ready-unique : (st : HintState) → ready-reads.Post κs (h, (st, tt)) r (h, (st, tt)) → ready-reads.Post κs (h, (st, tt)) r′ (h, (st, tt)) → r ≡ r′
-  ready-unique st p q = p ∙ sym q
-
-module _ (κs : Lfts 1) (a : ArgsD draw.signature κs) (r r′ : ResD draw.signature κs) (x x′ : AtExit (endedOf 1 draw-kinds.ps draw-kinds.r) κs) where
-  pub draw-unique : draw-reads.Post κs a r x → draw-reads.Post κs a r′ x′ → (r ≡ r′) × (now (x .1 .1 .1 .1 .0) ≡ now (x′ .1 .1 .1 .1 .0))
-  draw-unique p q = (p .answer ∙ sym (q .answer), p .memory ∙ sym (q .memory))
 
 module _ (κs : Lfts 0) (st : HintState) (d r r′ : Drawing) where
   pub hstem-unique : (min max : Fixed) → hstem-reads.Post κs (st, (d, (min, (max, tt)))) r (st, (d, (min, (max, tt)))) → hstem-reads.Post κs (st, (d, (min, (max, tt)))) r′ (st, (d, (min, (max, tt)))) → r ≡ r′

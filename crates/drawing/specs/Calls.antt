@@ -7,39 +7,17 @@ use lib.ListN.{length}
 use Rattle.fixed.specs.declared.Fixed.{Fixed}
 use Rattle.stems.specs.declared.mask.HintMask.{HintMask}
 use Rattle.zones.specs.declared.state.HintState.{HintState}
-use Rattle.hintmap.specs.declared.map.HintMap.{HintMap}
-use Rattle.pen.specs.declared.strokes.Point.{Point}
 use Rattle.pen.specs.declared.strokes.Pen.{Pen}
 use Rattle.pen.specs.declared.strokes.Stroke.{Stroke}
 use Rattle.pen.specs.Records.{noRecords, wordsOf, pickWords, written, fits}
-use Rattle.pen.specs.Strokes.{moveOf, lineOf, curveOf, finishOf}
-use Rattle.drawing.specs.declared.hints.Hints.{Hints}
+use Rattle.hints.specs.declared.hints.Hints.{Hints}
+use Rattle.hints.specs.declared.path.Path.{Path}
+use Rattle.hints.specs.declared.path.Answer.{Answer}
+use Rattle.hints.specs.declared.path.Answer.the-variants.{Wrote, NoRoom}
+use Rattle.hints.specs.Hints.{newHints, withStem, withMask, countered, readyOf}
+use Rattle.hints.specs.Path.{hasPoint, strokeBy}
 use Rattle.drawing.specs.declared.calls.Drawing.{Drawing}
 use Rattle.drawing.specs.declared.calls.After.{After}
-use Rattle.drawing.specs.declared.path.Path.{Path}
-use Rattle.drawing.specs.declared.path.Path.the-variants.{Move, Line, Curve, Finish}
-use Rattle.drawing.specs.declared.path.Drawn.{Drawn}
-use Rattle.drawing.specs.declared.path.Answer.{Answer}
-use Rattle.drawing.specs.declared.path.Answer.the-variants.{Wrote, NoRoom}
-use Rattle.drawing.specs.Hints.{newHints, withStem, withMask, countered, readyOf, devicePoint}
-
--- ---- a path call on a map and a pen
--- the stroke of a call, its points carried by a map
-abbrev pub strokeBy : HintMap → Fixed → Pen → Path → Stroke
-strokeBy m s pen (Move p) = moveOf pen p (devicePoint m s p)
-strokeBy m s pen (Line p) = lineOf pen p (devicePoint m s p)
-strokeBy m s pen (Curve p q r) = curveOf pen (devicePoint m s p) (devicePoint m s q) (devicePoint m s r)
-strokeBy m s pen Finish = finishOf pen
-
--- with room for a stroke's words the pen is the stroke's, and else it is as it was
-abbrev pub drawnBy : Bool → Pen → Stroke → Drawn
-drawnBy true pen s = record { pen = s .pen; answer = Wrote (length (wordsOf (s .records))) }
-drawnBy false pen s = record { pen = pen; answer = NoRoom }
-
--- the outcome: the pen and the answer, and what is lent
-pub record Drew (m : HintMap) (s : Fixed) (pen : Pen) (path : Path) (out : List ℤ) (said : Drawn) (left : List ℤ) : Type 0 where
-  pub answer : said ≡ drawnBy (fits (wordsOf (strokeBy m s pen path .records)) out) pen (strokeBy m s pen path)
-  pub memory : left ≡ pickWords (fits (wordsOf (strokeBy m s pen path .records)) out) (written (wordsOf (strokeBy m s pen path .records)) out) out
 
 -- ---- what a drawing is asked
 pub data Call : Type 0 where
@@ -47,39 +25,35 @@ pub data Call : Type 0 where
   hintMask : HintMask → Call
   counterMask : HintMask → Call
   clear : Call
-  move : Point → Call
-  line : Point → Call
-  curve : Point → Point → Point → Call
   close : Call
-  finish : Call
+  draw : Path → Call
 
 -- ---- the step
--- the hints that a call leaves: a point has the current map built first
+-- a call with a point has the current map built first
+abbrev pub readyFor : Bool → HintState → Hints → Hints
+readyFor true st h = readyOf st h
+readyFor false st h = h
+
+-- the hints that a call leaves
 abbrev pub hintsOf : HintState → Hints → Call → Hints
 hintsOf st h (stem min max) = withStem min max h
 hintsOf st h (hintMask m) = withMask m h
 hintsOf st h (counterMask m) = countered st m h
 hintsOf st h clear = newHints (st .scale)
-hintsOf st h (move p) = readyOf st h
-hintsOf st h (line p) = readyOf st h
-hintsOf st h (curve p q r) = readyOf st h
 hintsOf st h close = h
-hintsOf st h finish = h
+hintsOf st h (draw p) = readyFor (hasPoint p) st h
 
 abbrev pub still : Pen → Stroke
 still pen = record { pen = pen; records = noRecords }
 
--- the stroke of a call; one with no points leaves the pen as it is
+-- the stroke of a call; one that is not drawn leaves the pen as it is
 abbrev pub strokeOf : HintState → Hints → Pen → Call → Stroke
 strokeOf st h pen (stem min max) = still pen
 strokeOf st h pen (hintMask m) = still pen
 strokeOf st h pen (counterMask m) = still pen
 strokeOf st h pen clear = still pen
-strokeOf st h pen (move p) = strokeBy (readyOf st h .map) (st .scale) pen (Move p)
-strokeOf st h pen (line p) = strokeBy (readyOf st h .map) (st .scale) pen (Line p)
-strokeOf st h pen (curve p q r) = strokeBy (readyOf st h .map) (st .scale) pen (Curve p q r)
 strokeOf st h pen close = still pen
-strokeOf st h pen finish = strokeBy (h .map) (st .scale) pen Finish
+strokeOf st h pen (draw p) = strokeBy (hintsOf st h (draw p) .map) (st .scale) pen p
 
 -- the drawing after a call that fits, and the words that it writes
 abbrev pub nextOf : HintState → Drawing → Call → Drawing
@@ -98,20 +72,6 @@ afterBy false st d c = record { drawing = d; answer = NoRoom }
 pub record Called (st : HintState) (d : Drawing) (c : Call) (out : List ℤ) (said : After) (left : List ℤ) : Type 0 where
   pub answer : said ≡ afterBy (fits (wordsFor st d c) out) st d c
   pub memory : left ≡ pickWords (fits (wordsFor st d c) out) (written (wordsFor st d c) out) out
-
--- ---- a drawing's path calls
--- the call that asks a path
-abbrev pub callOf : Path → Call
-callOf (Move p) = move p
-callOf (Line p) = line p
-callOf (Curve p q r) = curve p q r
-callOf Finish = finish
-
-abbrev pub hasPoint : Path → Bool
-hasPoint (Move p) = true
-hasPoint (Line p) = true
-hasPoint (Curve p q r) = true
-hasPoint Finish = false
 
 -- hints and pen are kept if there was room, and else the drawing is as it came
 abbrev pub settledBy : Answer → Drawing → Hints → Pen → After

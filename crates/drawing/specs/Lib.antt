@@ -1,4 +1,3 @@
-pub mod Hints
 pub mod Calls
 pub mod Open
 pub mod Reached

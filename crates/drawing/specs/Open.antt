@@ -14,7 +14,7 @@ use Rattle.drawing.specs.declared.calls.Drawing.{Drawing}
 use Rattle.drawing.specs.declared.opening.Opening.{Opening}
 use Rattle.drawing.specs.declared.opening.Opening.the-variants.{Ok, BadScale, BadBlues}
 use Rattle.drawing.specs.declared.opening.Opened.{Opened}
-use Rattle.drawing.specs.Hints.{none, newHints}
+use Rattle.hints.specs.Hints.{none, newHints}
 
 abbrev pub newDrawing : Fixed → Drawing
 newDrawing s = record { hints = newHints s; pen = newPen }

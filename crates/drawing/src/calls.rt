@@ -1,19 +1,21 @@
 // The calls on a drawing. One that writes records does all of its work or none.
-use crate::hints::Hints;
-use crate::path::Answer;
-use crate::path::Drawn;
-use crate::path::Path;
-use crate::path::draw;
 use fixed::Fixed;
 use hintmap::HintMap;
+use hints::Answer;
+use hints::Drawn;
+use hints::Hints;
+use hints::Path;
+use hints::draw;
 use pen::Pen;
 use pen::Point;
 use stems::HintMask;
 use zones::HintState;
 ghost use mathlib.Core.Path.{_≡_};
 ghost use mathlib.Core.Bool.{true};
-ghost use Rattle.drawing.specs.Hints.{Kept};
-ghost use Rattle.drawing.specs.Calls.{Called, nextOf, callOf, hasPoint, settledBy, stem, hintMask, counterMask, clear, move, line, curve, close, finish};
+ghost use Rattle.hints.specs.declared.path.Path.the-variants.{Move, Line, Curve, Finish};
+ghost use Rattle.hints.specs.Hints.{Kept};
+ghost use Rattle.hints.specs.Path.{hasPoint};
+ghost use Rattle.drawing.specs.Calls.{Called, nextOf, settledBy, stem, hintMask, counterMask, clear, close, draw};
 
 pub struct Drawing {
     pub hints: Hints,
@@ -93,7 +95,7 @@ fn settle(drawing: Drawing, hints: Hints, drawn: Drawn) -> After
 fn by_path(state: HintState, drawing: Drawing, path: Path, out: &mut [i32]) -> After
     requires { ⌜ Kept state (drawing .hints) ⌝ }
     requires { ⌜ hasPoint path ≡ true ⌝ }
-    ensures { λ r. ⌜ Called state drawing (callOf path) (now (out .entry)) r (now (out .exit)) ⌝ }
+    ensures { λ r. ⌜ Called state drawing (draw path) (now (out .entry)) r (now (out .exit)) ⌝ }
 {
     let hints = drawing.hints;
     let pen = drawing.pen;
@@ -106,7 +108,7 @@ fn by_path(state: HintState, drawing: Drawing, path: Path, out: &mut [i32]) -> A
 // Ports `move_to`.
 pub fn move_to(state: HintState, drawing: Drawing, at: Point, out: &mut [i32]) -> After
     requires { ⌜ Kept state (drawing .hints) ⌝ }
-    ensures { λ r. ⌜ Called state drawing (move at) (now (out .entry)) r (now (out .exit)) ⌝ }
+    ensures { λ r. ⌜ Called state drawing (draw (Move at)) (now (out .entry)) r (now (out .exit)) ⌝ }
 {
     by_path(state, drawing, Path::Move(at), out)
 }
@@ -114,7 +116,7 @@ pub fn move_to(state: HintState, drawing: Drawing, at: Point, out: &mut [i32]) -
 // Ports `line_to`.
 pub fn line_to(state: HintState, drawing: Drawing, at: Point, out: &mut [i32]) -> After
     requires { ⌜ Kept state (drawing .hints) ⌝ }
-    ensures { λ r. ⌜ Called state drawing (line at) (now (out .entry)) r (now (out .exit)) ⌝ }
+    ensures { λ r. ⌜ Called state drawing (draw (Line at)) (now (out .entry)) r (now (out .exit)) ⌝ }
 {
     by_path(state, drawing, Path::Line(at), out)
 }
@@ -129,14 +131,14 @@ pub fn curve_to(
     out: &mut [i32],
 ) -> After
     requires { ⌜ Kept state (drawing .hints) ⌝ }
-    ensures { λ r. ⌜ Called state drawing (curve first second end) (now (out .entry)) r (now (out .exit)) ⌝ }
+    ensures { λ r. ⌜ Called state drawing (draw (Curve first second end)) (now (out .entry)) r (now (out .exit)) ⌝ }
 {
     by_path(state, drawing, Path::Curve(first, second, end), out)
 }
 
 // Ports `finish`. It has no point, so any map serves.
 pub fn finish(state: HintState, drawing: Drawing, out: &mut [i32]) -> After
-    ensures { λ r. ⌜ Called state drawing finish (now (out .entry)) r (now (out .exit)) ⌝ }
+    ensures { λ r. ⌜ Called state drawing (draw Finish) (now (out .entry)) r (now (out .exit)) ⌝ }
 {
     let hints = drawing.hints;
     let pen = drawing.pen;

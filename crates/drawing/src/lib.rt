@@ -1,8 +1,6 @@
 // The state of one drawing, and the calls on it (01, "Path records" and the rows on lone calls and opening).
 mod calls;
-mod hints;
 mod opening;
-mod path;
 
 pub use calls::After;
 pub use calls::Drawing;
@@ -15,11 +13,6 @@ pub use calls::hint_mask;
 pub use calls::hstem;
 pub use calls::line_to;
 pub use calls::move_to;
-pub use hints::Hints;
 pub use opening::Opened;
 pub use opening::Opening;
 pub use opening::open;
-pub use path::Answer;
-pub use path::Drawn;
-pub use path::Path;
-pub use path::draw;

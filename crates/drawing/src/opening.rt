@@ -1,7 +1,7 @@
 // Opening a drawing without a script.
 use crate::calls::Drawing;
-use crate::hints::Hints;
 use fixed::Fixed;
+use hints::Hints;
 use pen::Pen;
 use zones::BlueZone;
 use zones::HintParams;

@@ -13,7 +13,7 @@ use drawing::move_to;
 use pen::Point;
 use zones::HintState;
 ghost use Prim.Native.Nat.{_≤_};
-ghost use Rattle.drawing.specs.Hints.{Kept};
+ghost use Rattle.hints.specs.Hints.{Kept};
 
 // A call that writes records: 5 move, 6 line, 7 curve, 9 finish. Operands start at `at`.
 pub fn drawn(

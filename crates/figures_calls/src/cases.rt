@@ -2,11 +2,11 @@
 use crate::calls;
 use crate::lent;
 use crate::openings;
-use drawing::Answer;
 use drawing::Drawing;
+use hints::Answer;
 use zones::HintState;
 ghost use Prim.Native.Nat.{_+_, _≤_, _<_};
-ghost use Rattle.drawing.specs.Hints.{Kept};
+ghost use Rattle.hints.specs.Hints.{Kept};
 ghost use Rattle.figures_calls.specs.Turn.{Turned};
 
 // What a call of a row leaves: the drawing, where the row goes on, and whether all was as expected.

@@ -2,7 +2,7 @@
 use drawing::Opened;
 use drawing::Opening;
 use drawing::open;
-ghost use Rattle.drawing.specs.Hints.{Kept};
+ghost use Rattle.hints.specs.Hints.{Kept};
 
 // A drawing at the row's scale and parameters, or the one beside a refusal. A list has up to eight pairs.
 pub fn opened_by(row: &[i32]) -> Opened

@@ -12,14 +12,14 @@ use Rattle.zones.specs.declared.state.HintState.{HintState}
 use Rattle.pen.specs.declared.strokes.Stroke.{Stroke}
 use Rattle.pen.specs.Records.{wordsOf}
 use Rattle.drawing.specs.declared.calls.Drawing.{Drawing}
-use Rattle.drawing.specs.Calls.{callOf as pathCall, hintsOf, wordsFor, nextOf}
-use Rattle.drawing.proofs.Steps.{words-short}
+use Rattle.drawing.specs.Calls.{draw, hintsOf, wordsFor, nextOf}
+use Rattle.hints.proofs.Steps.{words-short}
 use Rattle.commands.specs.declared.reading.Command.{Command}
 use Rattle.commands.specs.declared.reading.Command.the-variants.{Mark, Draw}
 use Rattle.commands.specs.Commands.{Placed}
 use Rattle.run.specs.Room.{Step, Fitted, fitBy, fitted}
 use Rattle.run.specs.Run.{callOf, stepsOf}
-use Rattle.run.proofs.Turns.{mark-still, stroke-by}
+use Rattle.run.proofs.Turns.{mark-still}
 
 -- no more than there is room for
 pub within-room : (room : ℕ) (ts : List Step) → length (fitted room ts .words) ≤ room
@@ -35,7 +35,7 @@ within-room room (t ∷ ts) = by (leb (length (t .words)) room) refl (within-roo
 ten : (st : HintState) (s : List ℕ) (from : ℕ) (d : Drawing) (c : Command) → length (wordsFor st d (callOf s from c)) ≤ 10
 ten st s from d (Mark m) = omega (arith, ap (λ (t : Stroke). length (wordsOf (t .records))) (mark-still st (d .hints) (d .pen) s from m))
 ten st s from d (Draw p) =
-    omega (arith, ap (λ (t : Stroke). length (wordsOf (t .records))) (stroke-by st (d .hints) (d .pen) p), words-short (hintsOf st (d .hints) (pathCall p) .map) (st .scale) (d .pen) p)
+    words-short (hintsOf st (d .hints) (draw p) .map) (st .scale) (d .pen) p
 
 -- and so many commands at most ten times as many
 pub ten-each : (st : HintState) (s : List ℕ) (from : ℕ) (d : Drawing) (cs : List Placed) (room : ℕ) → length (fitted room (stepsOf st s from d cs) .words) ≤ 10 * length cs

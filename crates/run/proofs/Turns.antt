@@ -13,16 +13,16 @@ use Rattle.pen.specs.declared.strokes.Pen.{Pen}
 use Rattle.pen.specs.declared.strokes.Stroke.{Stroke}
 use Rattle.pen.specs.Records.{wordsOf, fits}
 use Rattle.pen.specs.Strokes.{newPen}
-use Rattle.drawing.specs.declared.hints.Hints.{Hints}
-use Rattle.drawing.specs.declared.path.Path.{Path}
-use Rattle.drawing.specs.declared.path.Path.the-variants.{Move, Line, Curve, Finish}
-use Rattle.drawing.specs.declared.path.Drawn.{Drawn}
+use Rattle.hints.specs.declared.hints.Hints.{Hints}
+use Rattle.hints.specs.declared.path.Path.{Path}
+use Rattle.hints.specs.declared.path.Drawn.{Drawn}
 use Rattle.drawing.specs.declared.calls.Drawing.{Drawing}
-use Rattle.drawing.specs.Hints.{Kept, newHints, readyOf}
-use Rattle.drawing.specs.Calls.{callOf as pathCall, hasPoint, hintsOf, still, strokeBy, strokeOf, nextOf, wordsFor}
+use Rattle.hints.specs.Hints.{Kept, newHints, readyOf}
+use Rattle.hints.specs.Path.{hasPoint, strokeBy}
+use Rattle.drawing.specs.Calls.{draw, readyFor, hintsOf, still, strokeOf, nextOf, wordsFor}
 use Rattle.drawing.specs.Open.{newDrawing}
-use Rattle.drawing.proofs.Kept.{kept-new, kept-stem, kept-mask, kept-counter, kept-ready}
-use Rattle.drawing.proofs.Steps.{ready-idle, ready-twice, DrewWords, DrewNothing}
+use Rattle.hints.proofs.Kept.{kept-new, kept-stem, kept-mask, kept-counter, kept-ready}
+use Rattle.hints.proofs.Steps.{ready-idle, ready-twice, DrewWords, DrewNothing}
 use Rattle.words.specs.declared.answer.Answer.{Answer}
 use Rattle.words.specs.declared.answer.Answer.the-variants.{Ok, NoRoom}
 use Rattle.words.specs.Answers.{firstOf}
@@ -70,33 +70,21 @@ mark-still st h pen s from Close = refl
 -- ---- a call by the map that the hints have
 module _ (st : HintState) where
   -- where no map is wanted, a call leaves the hints as they are
-  idle-hints : (h : Hints) (b : Bool) → h .map .«is_valid» ≡ b → (path : Path) → wantsMap b path ≡ false → hintsOf st h (pathCall path) ≡ h
-  idle-hints h true v (Move p) w = ready-idle st h v
-  idle-hints h true v (Line p) w = ready-idle st h v
-  idle-hints h true v (Curve p q r) w = ready-idle st h v
-  idle-hints h true v Finish w = refl
-  idle-hints h false v (Move p) w = cc
-  idle-hints h false v (Line p) w = cc
-  idle-hints h false v (Curve p q r) w = cc
-  idle-hints h false v Finish w = refl
+  idle-hints : (h : Hints) (b : Bool) → h .map .«is_valid» ≡ b → (path : Path) → wantsMap b path ≡ false → hintsOf st h (draw path) ≡ h
+  idle-hints h true v path w = go (hasPoint path)
+    where
+      go : (points : Bool) → readyFor points st h ≡ h
+      go true = ready-idle st h v
+      go false = refl
+  idle-hints h false v path w = ap (λ (b : Bool). readyFor b st h) w
 
   -- where one is wanted, hints that are ready give the same
-  ready-hints : (h : Hints) (path : Path) → hasPoint path ≡ true → hintsOf st (readyOf st h) (pathCall path) ≡ hintsOf st h (pathCall path)
-  ready-hints h (Move p) w = ready-twice st h
-  ready-hints h (Line p) w = ready-twice st h
-  ready-hints h (Curve p q r) w = ready-twice st h
-  ready-hints h Finish w = cc
+  ready-hints : (h : Hints) (path : Path) → hasPoint path ≡ true → hintsOf st (readyOf st h) (draw path) ≡ hintsOf st h (draw path)
+  ready-hints h path w = rw w (ready-twice st h)
 
-  -- a stroke goes by the map that its call leaves
-  pub stroke-by : (h : Hints) (pen : Pen) (path : Path) → strokeOf st h pen (pathCall path) ≡ strokeBy (hintsOf st h (pathCall path) .map) (st .scale) pen path
-  stroke-by h pen (Move p) = refl
-  stroke-by h pen (Line p) = refl
-  stroke-by h pen (Curve p q r) = refl
-  stroke-by h pen Finish = refl
-
-  -- so it depends on the hints that are left alone
-  same-stroke : (h k : Hints) (pen : Pen) (path : Path) → hintsOf st h (pathCall path) ≡ hintsOf st k (pathCall path) → strokeOf st h pen (pathCall path) ≡ strokeOf st k pen (pathCall path)
-  same-stroke h k pen path e = stroke-by h pen path ∙ ap (λ (x : Hints). strokeBy (x .map) (st .scale) pen path) e ∙ sym (stroke-by k pen path)
+  -- a stroke depends on the hints that its call leaves alone
+  same-stroke : (h : Hints) {k : Hints} (pen : Pen) (path : Path) → hintsOf st h (draw path) ≡ k → strokeOf st h pen (draw path) ≡ strokeBy (k .map) (st .scale) pen path
+  same-stroke h pen path e = ap (λ (x : Hints). strokeBy (x .map) (st .scale) pen path) e
 
 -- ---- how a run stands
 module _ (st : HintState) (s part : List ℕ) (first n from : ℕ) where
@@ -170,9 +158,9 @@ module _ (st : HintState) (s part : List ℕ) (first n from : ℕ) where
     pub turn-ready : {path : Path} → readAt part n at .command ≡ Draw path → hasPoint path ≡ true → Going out₀ (readyOf st h) pen next at out
     turn-ready {path} e w =
         let q = ready-hints st h path w in
-        let f = same-stroke st (readyOf st h) h pen path q in
-        let t = strokeOf st h pen (pathCall path) in
-        let k = hintsOf st h (pathCall path) in
+        let f = same-stroke st (readyOf st h) pen path q in
+        let t = strokeOf st h pen (draw path) in
+        let k = hintsOf st h (draw path) in
         record {
           kept = kept-ready st h (g .kept);
           along = following (steps-first h pen i e t k refl refl ∙ sym (steps-first (readyOf st h) pen i e t k f q)) (g .along);
@@ -182,11 +170,11 @@ module _ (st : HintState) (s part : List ℕ) (first n from : ℕ) where
         }
 
     module _ {path : Path} (e : readAt part n at .command ≡ Draw path) (w : wantsMap (h .map .«is_valid») path ≡ false) where
-      idle : hintsOf st h (pathCall path) ≡ h
+      idle : hintsOf st h (draw path) ≡ h
       idle = idle-hints st h (h .map .«is_valid») refl path w
 
-      by-map : strokeOf st h pen (pathCall path) ≡ strokeBy (h .map) (st .scale) pen path
-      by-map = stroke-by st h pen path ∙ ap (λ (x : Hints). strokeBy (x .map) (st .scale) pen path) idle
+      by-map : strokeOf st h pen (draw path) ≡ strokeBy (h .map) (st .scale) pen path
+      by-map = same-stroke st h pen path idle
 
       -- a call that wrote its words
       pub turn-drew : {said : Drawn} {k : ℕ} {exit : List ℤ} → DrewWords (h .map) (st .scale) pen path (drop next out) said k exit → Going out₀ h (said .pen) (next + k) (nextAt part at) (take next out ++ exit)

@@ -9,9 +9,10 @@ use Rattle.stems.specs.declared.mask.HintMask.{HintMask}
 use Rattle.stems.specs.Mask.{maskOf}
 use Rattle.zones.specs.declared.state.HintState.{HintState}
 use Rattle.pen.specs.Records.{written}
-use Rattle.drawing.specs.declared.path.Path.{Path}
+use Rattle.hints.specs.declared.path.Path.{Path}
 use Rattle.drawing.specs.declared.calls.Drawing.{Drawing}
-use Rattle.drawing.specs.Calls.{Call, stem, hintMask, counterMask, clear, close, callOf as pathCall, hasPoint, nextOf, wordsFor}
+use Rattle.hints.specs.Path.{hasPoint}
+use Rattle.drawing.specs.Calls.{Call, stem, hintMask, counterMask, clear, close, draw, nextOf, wordsFor}
 use Rattle.drawing.specs.Open.{newDrawing}
 use Rattle.words.specs.declared.answer.Answer.the-variants.{Ok}
 use Rattle.words.specs.Answers.{firstOf}
@@ -40,7 +41,7 @@ markCall s from Close = close
 
 abbrev pub callOf : List ℕ → ℕ → Command → Call
 callOf s from (Mark m) = markCall s from m
-callOf s from (Draw p) = pathCall p
+callOf s from (Draw p) = draw p
 
 -- ---- the record words of each command
 unfoldable pub stepsOf : HintState → List ℕ → ℕ → Drawing → List Placed → List Step

@@ -1,12 +1,12 @@
 // The commands that write nothing, and the masks that they name.
 use commands::Marking;
-use drawing::Hints;
+use hints::Hints;
 use stems::HintMask;
 use zones::HintState;
 ghost use mathlib.Core.Path.{_≡_};
 ghost use Prim.Native.Nat.{_+_, _≤_};
 ghost use lib.ListN.{length, take, drop};
-ghost use Rattle.drawing.specs.Hints.{Kept};
+ghost use Rattle.hints.specs.Hints.{Kept};
 ghost use Rattle.drawing.specs.Calls.{hintsOf};
 ghost use Rattle.run.specs.Run.{maskAt, maskEnd, markCall};
 

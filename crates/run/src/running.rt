@@ -2,10 +2,10 @@
 use crate::marks::marked;
 use commands::Command;
 use commands::read_command;
-use drawing::Answer;
-use drawing::Hints;
-use drawing::Path;
-use drawing::draw;
+use hints::Answer;
+use hints::Hints;
+use hints::Path;
+use hints::draw;
 use pen::Pen;
 use zones::HintState;
 ghost use mathlib.Core.Path.{_≡_};

@@ -12,8 +12,8 @@ use Rattle.zones.specs.declared.state.HintParams.{HintParams}
 use Rattle.zones.specs.declared.state.HintState.{HintState}
 use Rattle.zones.specs.State.{stateOf}
 use Rattle.pen.specs.Records.{written}
-use Rattle.drawing.specs.declared.path.Answer.{Answer}
-use Rattle.drawing.specs.declared.path.Answer.the-variants.{Wrote, NoRoom}
+use Rattle.hints.specs.declared.path.Answer.{Answer}
+use Rattle.hints.specs.declared.path.Answer.the-variants.{Wrote, NoRoom}
 use Rattle.drawing.specs.declared.calls.Drawing.{Drawing}
 use Rattle.drawing.specs.declared.calls.After.{After}
 use Rattle.drawing.specs.declared.opening.Opening.{Opening}

@@ -1,8 +1,11 @@
 -- `by_path` meets its contract: what `draw` drew by ready hints is the call of the path. Assumes nothing.
-use mathlib.Core.Path.{_∙_}
+use mathlib.Core.Path.{ap, _∙_}
 use borrow.Author.Needs.{needs}
-use Rattle.drawing.proofs.Kept.{kept-ready}
-use Rattle.drawing.proofs.Outcome.{drawn-called, point-hints, point-stroke}
+use Rattle.hints.specs.declared.hints.Hints.{Hints}
+use Rattle.hints.specs.Path.{strokeBy}
+use Rattle.drawing.specs.Calls.{draw}
+use Rattle.hints.proofs.Kept.{kept-ready}
+use Rattle.drawing.proofs.Outcome.{drawn-called, point-hints}
 use Rattle.drawing.proofs.calls.by_path.Statement.{statement}
 use Rattle.drawing.proofs.calls.by_path.Tie as tie
 
@@ -27,8 +30,8 @@ returns c =
     let r = w .before .before .before in
     let s = r .before .before .before in
     let a = s .args in
-    drawn-called (a .state) (a .drawing) _ (r .ready .ensures ∙ point-hints (a .state) (a .drawing) (a .path) (s .pre .1))
-    (point-stroke (a .state) (a .drawing) (a .path) (r .ready .ensures)) (w .draw .ensures) (c .settle .ensures)
+    let h = r .ready .ensures ∙ point-hints (a .state) (a .drawing) (a .path) (s .pre .1) in
+    drawn-called (a .state) (a .drawing) (draw (a .path)) h (ap (λ (k : Hints). strokeBy (k .map) (a .state .scale) (a .drawing .pen) (a .path)) h) (w .draw .ensures) (c .settle .ensures)
 
 pub by-path-spec : {M : Type 1} → statement M
 by-path-spec =

@@ -2,7 +2,8 @@
 use mathlib.Core.Path.{refl}
 use native.Mathlib.Omega.{arith}
 use borrow.Author.Needs.{needs}
-use Rattle.drawing.specs.Calls.{finish}
+use Rattle.hints.specs.declared.path.Path.the-variants.{Finish}
+use Rattle.drawing.specs.Calls.{draw}
 use Rattle.drawing.proofs.Outcome.{drawn-called}
 use Rattle.drawing.proofs.calls.finish.Statement.{statement}
 use Rattle.drawing.proofs.calls.finish.Tie as tie
@@ -23,7 +24,7 @@ returns : tie.Need-returns
 returns c =
     let w = c .before .before in
     let a = w .before .before .before .before .before .before .args in
-    drawn-called (a .state) (a .drawing) finish refl refl (w .draw .ensures) (c .settle .ensures)
+    drawn-called (a .state) (a .drawing) (draw Finish) refl refl (w .draw .ensures) (c .settle .ensures)
 
 pub finish-spec : {M : Type 1} → statement M
 finish-spec = tie.close (tie.spec new-requires draw-requires settle-requires same-length returns)

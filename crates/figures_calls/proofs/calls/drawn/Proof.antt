@@ -1,6 +1,6 @@
 -- `calls::drawn` meets its contract: each of its calls keeps what every drawing has. Assumes nothing.
 use borrow.Author.Needs.{needs}
-use Rattle.figures_calls.proofs.Kept.{kept-called}
+use Rattle.drawing.proofs.Kept.{kept-called}
 use Rattle.figures_calls.proofs.calls.drawn.Statement.{statement}
 use Rattle.figures_calls.proofs.calls.drawn.Tie as tie
 

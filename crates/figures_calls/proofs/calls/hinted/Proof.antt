@@ -1,6 +1,6 @@
 -- `calls::hinted` meets its contract: each of its calls keeps what every drawing has. Assumes nothing.
 use borrow.Author.Needs.{needs}
-use Rattle.drawing.proofs.Kept.{kept-new, kept-stem, kept-mask, kept-counter}
+use Rattle.hints.proofs.Kept.{kept-new, kept-stem, kept-mask, kept-counter}
 use Rattle.figures_calls.proofs.calls.hinted.Statement.{statement}
 use Rattle.figures_calls.proofs.calls.hinted.Tie as tie
 

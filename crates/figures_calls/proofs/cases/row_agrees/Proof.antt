@@ -2,7 +2,7 @@
 use Prim.Native.Nat.{_-_}
 use lib.ListN.{length}
 use borrow.Author.Needs.{needs}
-use Rattle.drawing.specs.Hints.{Kept}
+use Rattle.hints.specs.Hints.{Kept}
 use Rattle.figures_calls.proofs.cases.row_agrees.Statement.{statement}
 use Rattle.figures_calls.proofs.cases.row_agrees.Tie as tie
 

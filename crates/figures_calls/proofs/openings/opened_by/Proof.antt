@@ -2,7 +2,7 @@
 use borrow.Author.Needs.{needs}
 use mathlib.Core.Path.{sym, subst}
 use Rattle.drawing.specs.declared.opening.Opened.{Opened}
-use Rattle.drawing.specs.Hints.{Kept}
+use Rattle.hints.specs.Hints.{Kept}
 use Rattle.drawing.proofs.Kept.{kept-open}
 use Rattle.figures_calls.proofs.openings.opened_by.Statement.{statement}
 use Rattle.figures_calls.proofs.openings.opened_by.Tie as tie

@@ -3,7 +3,7 @@ use mathlib.Core.Path.{sym, ap, _∙_}
 use native.Mathlib.Omega.{arith}
 use borrow.Author.Needs.{needs}
 use Rattle.stems.specs.declared.mask.HintMask.{HintMask}
-use Rattle.drawing.specs.declared.hints.Hints.{Hints}
+use Rattle.hints.specs.declared.hints.Hints.{Hints}
 use Rattle.drawing.specs.Calls.{hintsOf, hintMask, counterMask}
 use Rattle.commands.specs.declared.reading.Marking.{Marking}
 use Rattle.run.specs.Run.{maskEnd, markCall}

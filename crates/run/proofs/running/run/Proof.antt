@@ -9,10 +9,10 @@ use Rattle.pen.specs.Records.{wordsOf}
 use borrow.Author.Needs.{needs}
 use borrow.Rule.Slice.PartMut.{putMid, same-len-mid}
 use mathlib.Core.Bool.{false}
-use Rattle.drawing.specs.declared.hints.Hints.{Hints}
-use Rattle.drawing.specs.declared.path.Path.{Path}
-use Rattle.drawing.specs.Calls.{strokeBy, Drew}
-use Rattle.drawing.proofs.Steps.{ready-valid, drew-wrote, drew-refused}
+use Rattle.hints.specs.declared.hints.Hints.{Hints}
+use Rattle.hints.specs.declared.path.Path.{Path}
+use Rattle.hints.specs.Path.{strokeBy, Drew}
+use Rattle.hints.proofs.Steps.{ready-valid, drew-wrote, drew-refused}
 use Rattle.commands.specs.declared.reading.Read.{Read}
 use Rattle.commands.specs.declared.reading.Command.the-variants.{Mark, Draw}
 use Rattle.commands.specs.Commands.{readAt, nextAt}

@@ -1,0 +1,105 @@
+-- Laws of the steps of a drawing, for whoever repeats them: hints that are ready stay so, a path call writes at most ten words, and what its answer says. Assumes nothing.
+use mathlib.Core.Path.{_≡_, refl, sym, ap, _∙_}
+use mathlib.Core.Bool.{Bool, true, false}
+use mathlib.Core.List.{List}
+use Prim.Native.Nat.{ℕ, _≤_}
+use lib.IntN.{ℤ}
+use lib.ListN.{length}
+use Rattle.fixed.specs.declared.Fixed.{Fixed}
+use Rattle.zones.specs.declared.state.HintState.{HintState}
+use Rattle.hintmap.specs.declared.map.HintMap.{HintMap}
+use Rattle.build.proofs.Sound.{built-valid}
+use Rattle.pen.specs.declared.records.Records.{Records}
+use Rattle.pen.specs.declared.strokes.Pen.{Pen}
+use Rattle.pen.specs.Records.{emitted, wordsOf, pickWords, written, fits}
+use Rattle.pen.specs.Strokes.{moveOf, lineOf, curveOf, finishOf}
+use Rattle.pen.proofs.Words.{count-is, words-emitted, move-short, line-short, curve-short, finish-short}
+use Rattle.hints.specs.declared.hints.Hints.{Hints}
+use Rattle.hints.specs.declared.path.Path.{Path}
+use Rattle.hints.specs.declared.path.Path.the-variants.{Move, Line, Curve, Finish}
+use Rattle.hints.specs.declared.path.Drawn.{Drawn}
+use Rattle.hints.specs.declared.path.Answer.the-variants.{Wrote, NoRoom}
+use Rattle.hints.specs.Hints.{readyBy, readyOf}
+use Rattle.hints.specs.Path.{strokeBy, drawnBy, Drew}
+
+-- ---- hints
+module _ (st : HintState) (h : Hints) where
+  -- hints with a valid map are ready
+  pub ready-idle : h .map .«is_valid» ≡ true → readyOf st h ≡ h
+  unfolding readyOf
+  ready-idle e = ap (λ (b : Bool). readyBy b st h) e
+
+  -- hints that are ready have a valid map
+  pub ready-valid : readyOf st h .map .«is_valid» ≡ true
+  unfolding readyOf
+  ready-valid = go (h .map .«is_valid») refl
+    where
+      go : (b : Bool) → h .map .«is_valid» ≡ b → readyBy b st h .map .«is_valid» ≡ true
+      go true e = e
+      go false e = built-valid st _ _ _
+
+-- so they are made ready once
+pub ready-twice : (st : HintState) (h : Hints) → readyOf st (readyOf st h) ≡ readyOf st h
+ready-twice st h = ready-idle st (readyOf st h) (ready-valid st h)
+
+-- ---- how many words a path call writes
+-- its words
+abbrev pub pathWords : HintMap → Fixed → Pen → Path → List ℤ
+pathWords m s pen path = wordsOf (strokeBy m s pen path .records)
+
+whole : {r : Records} (ws : List ℤ) → r ≡ emitted ws → length (wordsOf r) ≡ r .count
+whole ws e = rw e (ap length (words-emitted ws)) ∙ sym (count-is ws e)
+
+module _ (m : HintMap) (s : Fixed) (pen : Pen) where
+  -- as many as its records count
+  pub path-whole : (path : Path) → length (pathWords m s pen path) ≡ strokeBy m s pen path .records .count
+  unfolding moveOf lineOf curveOf finishOf
+  path-whole (Move p) = whole _ refl
+  path-whole (Line p) = whole _ refl
+  path-whole (Curve p q r) = whole _ refl
+  path-whole Finish = whole _ refl
+
+  -- at most ten
+  pub path-short : (path : Path) → strokeBy m s pen path .records .count ≤ 10
+  path-short (Move p) = move-short pen p _
+  path-short (Line p) = line-short pen p _
+  path-short (Curve p q r) = curve-short pen _ _ _
+  path-short Finish = finish-short pen
+
+  pub words-short : (path : Path) → length (pathWords m s pen path) ≤ 10
+  words-short path = rw (path-whole path) (path-short path)
+
+-- ---- what the answer of a path call says
+-- of a call that wrote so many words
+pub record DrewWords (m : HintMap) (s : Fixed) (from : Pen) (path : Path) (out : List ℤ) (said : Drawn) (k : ℕ) (exit : List ℤ) : Type 0 where
+  pub fit : fits (pathWords m s from path) out ≡ true
+  pub pen : said .pen ≡ strokeBy m s from path .pen
+  pub count : k ≡ length (pathWords m s from path)
+  pub left : exit ≡ written (pathWords m s from path) out
+
+-- of a call that was refused
+pub record DrewNothing (m : HintMap) (s : Fixed) (from : Pen) (path : Path) (out : List ℤ) (said : Drawn) (exit : List ℤ) : Type 0 where
+  pub fit : fits (pathWords m s from path) out ≡ false
+  pub pen : said .pen ≡ from
+  pub left : exit ≡ out
+
+module _ {m : HintMap} {s : Fixed} {pen : Pen} {path : Path} {out : List ℤ} {said : Drawn} {left : List ℤ} (h : Drew m s pen path out said left) where
+  pub drew-wrote : (k : ℕ) → said .answer ≡ Wrote k → DrewWords m s pen path out said k left
+  drew-wrote k a = go (fits (pathWords m s pen path) out) refl (h .answer) (h .memory)
+    where
+      go : (b : Bool) → fits (pathWords m s pen path) out ≡ b → said ≡ drawnBy b pen (strokeBy m s pen path) → left ≡ pickWords b (written (pathWords m s pen path) out) out → DrewWords m s pen path out said k left
+      go true f e l =
+          let w : Wrote (length (pathWords m s pen path)) ≡ Wrote k = sym (ap (λ (x : Drawn). x .answer) e) ∙ a in
+          record { fit = f; pen = ap (λ (x : Drawn). x .pen) e; count = cc; left = l }
+      go false f e l =
+          let w : NoRoom ≡ Wrote k = sym (ap (λ (x : Drawn). x .answer) e) ∙ a in
+          record { fit = cc; pen = cc; count = cc; left = cc }
+
+  pub drew-refused : said .answer ≡ NoRoom → DrewNothing m s pen path out said left
+  drew-refused a = go (fits (pathWords m s pen path) out) refl (h .answer) (h .memory)
+    where
+      go : (b : Bool) → fits (pathWords m s pen path) out ≡ b → said ≡ drawnBy b pen (strokeBy m s pen path) → left ≡ pickWords b (written (pathWords m s pen path) out) out → DrewNothing m s pen path out said left
+      go true f e l =
+          let w : Wrote (length (pathWords m s pen path)) ≡ NoRoom = sym (ap (λ (x : Drawn). x .answer) e) ∙ a in
+          record { fit = cc; pen = cc; left = cc }
+      go false f e l = record { fit = f; pen = ap (λ (x : Drawn). x .pen) e; left = l }

@@ -1,0 +1,79 @@
+-- `stroke` meets its contract, by its four arms and their calls. Assumes nothing.
+use borrow.Author.Needs.{needs}
+use Rattle.hints.proofs.path.stroke.Statement.{statement}
+use Rattle.hints.proofs.path.stroke.Tie as tie
+
+enum-known-path : tie.Need-enum-known-path
+enum-known-path c = search needs
+
+place-requires : tie.Need-place-requires
+place-requires c κs = search needs
+
+move-to-requires : tie.Need-move-to-requires
+move-to-requires c κs = search needs
+
+enum-known-path-2 : tie.Need-enum-known-path-2
+enum-known-path-2 c = search needs
+
+place-requires-2 : tie.Need-place-requires-2
+place-requires-2 c κs = search needs
+
+line-to-requires : tie.Need-line-to-requires
+line-to-requires c κs = search needs
+
+enum-known-path-3 : tie.Need-enum-known-path-3
+enum-known-path-3 c = search needs
+
+place-requires-3 : tie.Need-place-requires-3
+place-requires-3 c κs = search needs
+
+place-requires-4 : tie.Need-place-requires-4
+place-requires-4 c κs = search needs
+
+place-requires-5 : tie.Need-place-requires-5
+place-requires-5 c κs = search needs
+
+curve-to-requires : tie.Need-curve-to-requires
+curve-to-requires c κs = search needs
+
+enum-told : tie.Need-enum-told
+enum-told c = search needs
+
+finish-requires : tie.Need-finish-requires
+finish-requires c κs = search needs
+
+returns : tie.Need-returns
+returns c = rw (c .before .before .before .path .given .1, c .move-to .ensures, c .before .place .ensures)
+
+returns-2 : tie.Need-returns-2
+returns-2 c = rw (c .before .before .before .path2 .given .1, c .line-to .ensures, c .before .place2 .ensures)
+
+returns-3 : tie.Need-returns-3
+returns-3 c =
+    let p = c .before .before .before in
+    rw (p .before .before .path3 .given .1, c .curve-to .ensures, c .before .place5 .ensures, c .before .before .place4 .ensures, p .place3 .ensures)
+
+returns-4 : tie.Need-returns-4
+returns-4 c = rw (c .before .enum-told .given .1, c .finish .ensures)
+
+pub stroke-spec : {M : Type 1} → statement M
+stroke-spec =
+    tie.close
+    (tie.spec
+    enum-known-path
+    place-requires
+    move-to-requires
+    enum-known-path-2
+    place-requires-2
+    line-to-requires
+    enum-known-path-3
+    place-requires-3
+    place-requires-4
+    place-requires-5
+    curve-to-requires
+    enum-told
+    finish-requires
+    returns
+    returns-2
+    returns-3
+    returns-4)
