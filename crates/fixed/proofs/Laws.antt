@@ -11,7 +11,7 @@ use mir.Syntax.{w32}
 use mir.Val.{SFits}
 use Rattle.fixed.specs.declared.Fixed.{Fixed}
 use Rattle.fixed.specs.Whole.{lowBits, clearLow, wrap32}
-use Rattle.fixed.specs.Fixed.{fromBits, addF, subF, roundF, truncF}
+use Rattle.fixed.specs.Fixed.{fromBits, HALF, addF, subF, roundF, truncF}
 use Rattle.fixed.proofs.Ints.{ints, one, fit-up, of-add, of-sub, add-fits, sub-fits}
 use Rattle.fixed.proofs.Bits.{wrap-id, wrap-fits, low-lt, of-wrap}
 
@@ -69,15 +69,15 @@ trunc-again a = ap fromBits (clear-again 10 (a .bits))
 -- ---- rounding: to a whole pixel, by at most half of one, unless adding the half wraps
 pub round-whole : (a : Fixed) → lowBits 16 (roundF a .bits) ≡ 0
 unfolding roundF
-round-whole a = clear-low 16 (wrap32 (a .bits +ℤ pos 32768))
+round-whole a = clear-low 16 (addF a HALF .bits)
 
 module _ (a : Fixed) (f : SFits w32 (a .bits +ℤ pos 32768)) where
   pub round-up : roundF a .bits ≤ℤ (a .bits +ℤ pos 32768)
-  unfolding roundF
+  unfolding roundF addF
   round-up = rw (wrap-id _ f) (clear-under 16 (a .bits +ℤ pos 32768))
 
   pub round-down : a .bits <ℤ (roundF a .bits +ℤ pos 32768)
-  unfolding roundF
+  unfolding roundF addF
   round-down =
       let s = a .bits +ℤ pos 32768 in
       rw (wrap-id s f) (omega (ints, clear-near 16 s, of-add (a .bits) (pos 32768), of-add (clearLow 16 s) (pos 32768), of-add (clearLow 16 s) (pos 65536)))

@@ -1,9 +1,8 @@
 -- A stem's two edges: their sides, what both have of the stem, and when they are there and locked. Assumes nothing.
 use mathlib.Core.Path.{_≡_, refl, sym, ap}
-use mathlib.Core.Bool.{Bool, true, false, _&&_, and-true}
+use mathlib.Core.Bool.{Bool, true, false, cond, _&&_, and-true}
 use Prim.Native.Nat.{ℕ}
 use Rattle.fixed.specs.declared.Fixed.{Fixed}
-use Rattle.fixed.specs.Fixed.{pickF}
 use Rattle.stems.specs.declared.edge.StemHint.{StemHint}
 use Rattle.stems.specs.declared.edge.Hint.{Hint}
 use Rattle.stems.specs.declared.edge.Shape.{Shape}
@@ -39,7 +38,7 @@ module _ (i : ℕ) (s : Fixed) where
   one (Pair l h) e = refl
 
 -- use changes the lock and the device height alone
-used : (u : Bool) (st : StemHint) (e : Hint) → e .locked ≡ false → usedBy u st e ≡ withDevice u e (pickF u (savedFor st e) (e .«ds_coord»))
+used : (u : Bool) (st : StemHint) (e : Hint) → e .locked ≡ false → usedBy u st e ≡ withDevice u e (cond u (savedFor st e) (e .«ds_coord»))
 used true st e f = refl
 used false st e f = ap (λ (l : Bool). withDevice l e (e .«ds_coord»)) f
 
@@ -50,7 +49,7 @@ module _ (st : StemHint) (i : ℕ) (s : Fixed) where
   abbrev lock : Bool → Bool
   lock b = st .«is_used» && isValid (edge b)
 
-  drawn : (b : Bool) → setupOf st i s b ≡ withDevice (lock b) (edge b) (pickF (lock b) (savedFor st (edge b)) ((edge b) .«ds_coord»))
+  drawn : (b : Bool) → setupOf st i s b ≡ withDevice (lock b) (edge b) (cond (lock b) (savedFor st (edge b)) ((edge b) .«ds_coord»))
   unfolding setupOf
   drawn b = used (lock b) st (edge b) ((fresh i s (shapeOf st) b) .0)
 
