@@ -113,7 +113,7 @@ lockedAt e d = withDevice true e d
 abbrev pub width : StemHint → Fixed
 width s = subF (s .max) (s .min)
 
--- a width of −21.0 is a bottom ghost at max, −20.0 a top ghost at min, any other below 0 a pair with its ends swapped
+-- a width of −21.0 is a bottom ghost at max, −20.0 a top ghost at min, any other negative width a pair with its ends swapped
 unfoldable pub shapeOf : StemHint → Shape
 shapeOf s =
     cond (sameF (width s) (whole (negℤ (pos 21)))) (BottomGhost (s .max))
@@ -123,8 +123,8 @@ shapeOf s =
 -- the bottom edge (true) or the top edge of a shape; a ghost has no other
 unfoldable pub edgeOf : Shape → Bool → ℕ → Fixed → Hint
 edgeOf (BottomGhost h) true i s = hintAt GhostBottom h i s
-edgeOf (BottomGhost h) false i s = hintAt Absent (ZERO) i s
-edgeOf (TopGhost h) true i s = hintAt Absent (ZERO) i s
+edgeOf (BottomGhost h) false i s = hintAt Absent ZERO i s
+edgeOf (TopGhost h) true i s = hintAt Absent ZERO i s
 edgeOf (TopGhost h) false i s = hintAt GhostTop h i s
 edgeOf (Pair b t) true i s = hintAt PairBottom b i s
 edgeOf (Pair b t) false i s = hintAt PairTop t i s

@@ -27,7 +27,7 @@ weight i = 2 ^ (7 - i % 8)
 unfoldable pub isActive : HintMask → ℕ → Bool
 isActive m i = eqb (byteOf m i / weight i % 2) 1
 
--- the mask without an active stem, and without any
+-- the mask without a stem: its bit cleared, where it is set
 abbrev pub without : HintMask → ℕ → HintMask
 without m i = ofBytes (set (m .bytes) (i / 8) (byteOf m i - weight i))
 
