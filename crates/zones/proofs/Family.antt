@@ -4,9 +4,7 @@ use mathlib.Core.Bool.{Bool, true, false, cond}
 use mathlib.Core.List.{List, [], _∷_, _++_, map}
 use Prim.Native.Nat.{ℕ, zero, suc, _+_, _≤_, _<_}
 use native.Mathlib.Numerals.{add-one}
-use native.Mathlib.Omega.{arith}
-use lib.ListN.{length, take, drop, getD, set, length-take, drop-of-length-le}
-use lib.Seq.{drop-cons, getD-take}
+use lib.ListN.{length, take, drop, getD, set}
 use Rattle.fixed.specs.declared.Fixed.{Fixed}
 use Rattle.fixed.specs.Fixed.{ZERO, sameF}
 use Rattle.zones.specs.declared.blues.Blues.{Blues}
@@ -14,6 +12,7 @@ use Rattle.zones.specs.declared.blues.BlueZone.{BlueZone}
 use Rattle.zones.specs.declared.blues.Zones.{Zones}
 use Rattle.zones.specs.declared.blues.Nearest.{Nearest}
 use Rattle.zones.specs.Zones.{noBlue, listOf, familyEdge, nearer, nearestFrom}
+use Rattle.zones.proofs.Taken.{taken-more, taken-ends}
 
 -- the search from pair i on
 abbrev pub searchFrom : Bool → Blues → Fixed → Fixed → Nearest → ℕ → Nearest
@@ -25,9 +24,7 @@ module _ (bottom : Bool) (bs : Blues) (fits : bs .count ≤ length (bs .pairs)) 
       searchFrom bottom bs flat limit near i ≡
       cond (sameF (near .diff) ZERO) near (searchFrom bottom bs flat limit (nearer flat limit near (familyEdge bottom (getD (bs .pairs) i noBlue))) (i + 1))
   unfolding nearestFrom
-  search-at l =
-      let k : i < length (listOf bs) = simp length-take (omega arith) in
-      rw (drop-cons (listOf bs) i noBlue k, getD-take (bs .count) (bs .pairs) i noBlue l, add-one i)
+  search-at l = rw (taken-more (bs .count) (bs .pairs) fits i noBlue l)
 
   -- a distance of 0 ends it
   pub search-found : i < bs .count → sameF (near .diff) ZERO ≡ true → searchFrom bottom bs flat limit near i ≡ near
@@ -41,9 +38,7 @@ module _ (bottom : Bool) (bs : Blues) (fits : bs .count ≤ length (bs .pairs)) 
   -- the end of the list ends it
   pub search-ends : bs .count ≤ i → searchFrom bottom bs flat limit near i ≡ near
   unfolding nearestFrom
-  search-ends l =
-      let k : length (listOf bs) ≤ i = simp length-take (omega arith) in
-      rw (drop-of-length-le (listOf bs) k)
+  search-ends l = rw (taken-ends (bs .count) (bs .pairs) fits i l)
 
 -- the zones before i changed alike; at the count this is `eachIn`
 abbrev pub eachBefore : (BlueZone → BlueZone) → Zones → ℕ → Zones

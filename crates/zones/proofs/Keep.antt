@@ -3,12 +3,11 @@ use mathlib.Core.Path.{_≡_, refl, sym, ap, _∙_}
 use mathlib.Core.Bool.{Bool, true, false, cond, _||_}
 use mathlib.Core.List.{List, [], _∷_, _++_, map, append-assoc, append-nil}
 use Prim.Native.Nat.{ℕ, suc, _+_, _-_, _≤_, _<_}
-use native.Mathlib.Numerals.{add-one}
 use native.Mathlib.Omega.{arith}
 use lib.Dec.{eqb}
-use lib.ListN.{length, take, drop, getD, set, drop-of-length-le, length-append, length-take, length-map}
+use lib.ListN.{length, take, drop, getD, set, length-append, length-take, length-map}
 use borrow.Author.Tests.{ne-eqb}
-use lib.Seq.{drop-cons, set-at, take-append-seam, drop-append-seam}
+use lib.Seq.{set-at, take-append-seam, drop-append-seam}
 use Rattle.fixed.specs.declared.Fixed.{Fixed}
 use Rattle.fixed.specs.Fixed.{ZERO, subF, lessF, maxF}
 use Rattle.zones.specs.declared.blues.Blue.{Blue}
@@ -18,6 +17,7 @@ use Rattle.zones.specs.declared.blues.Zones.{Zones}
 use Rattle.zones.specs.declared.state.HintParams.{HintParams}
 use Rattle.zones.specs.Zones.{noBlue, noZone, heightOf, zoneOf, sift, bluesZones, greatestFrom, filled, packed, noZones, pushed, keptIn, readIn, listOf, kept, eachIn}
 use Rattle.zones.specs.State.{emBox, stateBy, stateOf}
+use Rattle.zones.proofs.Taken.{taken-more, taken-ends}
 
 -- a pair read adds at most one zone
 pub kept-count : (other : Bool) (q : Zones) (b : Blue) → keptIn other q b .count ≤ q .count + 1
@@ -28,15 +28,16 @@ kept-count other q b = go (lessF (heightOf b) ZERO)
     go true = omega arith
     go false = omega arith
 
--- a pair more of those to be read
-pub read-more : (other : Bool) (q : Zones) (bs : List Blue) (i : ℕ) → i < length bs → readIn other q (drop i bs) ≡ readIn other (keptIn other q (getD bs i noBlue)) (drop (i + 1) bs)
-unfolding readIn
-read-more other q bs i h = rw (add-one, drop-cons bs i noBlue)
+module _ (other : Bool) (q : Zones) (n : ℕ) (bs : List Blue) (fits : n ≤ length bs) (i : ℕ) where
+  -- a pair more of those to be read
+  pub read-more : i < n → readIn other q (drop i (take n bs)) ≡ readIn other (keptIn other q (getD bs i noBlue)) (drop (i + 1) (take n bs))
+  unfolding readIn
+  read-more l = rw (taken-more n bs fits i noBlue l)
 
--- none are left
-pub read-ends : (other : Bool) (q : Zones) (bs : List Blue) (i : ℕ) → length bs ≤ i → readIn other q (drop i bs) ≡ q
-unfolding readIn
-read-ends other q bs i h = rw (drop-of-length-le bs h)
+  -- none are left
+  pub read-ends : n ≤ i → readIn other q (drop i (take n bs)) ≡ q
+  unfolding readIn
+  read-ends l = rw (taken-ends n bs fits i l)
 
 -- ---- zones kept, as a list
 -- the height of a pair is that of its zone
