@@ -5,7 +5,7 @@ use lib.ListN.{getD, set}
 use lib.IntN.{pos}
 use lib.Dec.{ltb}
 use Rattle.fixed.specs.declared.Fixed.{Fixed}
-use Rattle.fixed.specs.Fixed.{fromBits, addF, subF, negF, divF, fractF, minF, maxF, lessF, atMostF, sameF, pickF}
+use Rattle.fixed.specs.Fixed.{fromBits, addF, subF, negF, divF, fractF, minF, maxF, lessF, atMostF, sameF}
 use Rattle.stems.specs.declared.edge.Hint.{Hint}
 use Rattle.hintmap.specs.declared.map.HintMap.{HintMap}
 use Rattle.stems.specs.Edge.{noHint, atDevice}
@@ -33,7 +33,7 @@ edgeAt m k = getD (m .edges) k noHint
 
 -- the move up from a fraction to the next whole pixel
 unfoldable pub toNext : Fixed → Fixed
-toNext f = pickF (sameF f none) none (subF pixel f)
+toNext f = cond (sameF f none) none (subF pixel f)
 
 -- the nearest whole pixels above and below that one of the two edges can come to
 unfoldable pub movesOf : Fixed → Fixed → Moves
@@ -54,7 +54,7 @@ roomDown m (suc i) by = atMostF (edgeAt m i .«ds_coord») (subF (addF (edgeAt m
 
 -- with room both ways the shorter move, up where they are as long; with room one way that one; else none. It is short of the best where there was no room for a shorter move up
 unfoldable pub choiceOf : Bool → Bool → Moves → Choice
-choiceOf true true m = record { by = pickF (lessF (negF (m .down)) (m .up)) (m .down) (m .up); short = false }
+choiceOf true true m = record { by = cond (lessF (negF (m .down)) (m .up)) (m .down) (m .up); short = false }
 choiceOf true false m = record { by = m .up; short = false }
 choiceOf false true m = record { by = m .down; short = lessF (m .up) (negF (m .down)) }
 choiceOf false false m = record { by = none; short = true }

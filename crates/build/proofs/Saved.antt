@@ -1,6 +1,6 @@
 -- Laws of the heights that a build saves in the stems. Assumes nothing.
 use mathlib.Core.Path.{_≡_, refl, sym, ap, _∙_}
-use mathlib.Core.Bool.{Bool, true, false, not, _&&_, false≢true}
+use mathlib.Core.Bool.{Bool, true, false, cond, not, _&&_, false≢true}
 use mathlib.Core.List.{List, [], _∷_}
 use mathlib.Core.Logic.{_⊎_, inl, inr}
 use Prim.Native.Nat.{ℕ, zero, suc, _+_, _≤_, _<_}
@@ -12,7 +12,6 @@ use lib.ListN.{length, drop, getD, set, length-set, drop-of-length-le}
 use lib.Seq.{drop-cons, set-out, getD-set-same, getD-set-other}
 use borrow.Author.Tests.{eqb-true, eqb-false, eq-eqb}
 use Rattle.fixed.specs.declared.Fixed.{Fixed}
-use Rattle.fixed.specs.Fixed.{pickF}
 use Rattle.stems.specs.declared.edge.StemHint.{StemHint}
 use Rattle.stems.specs.declared.edge.Hint.{Hint}
 use Rattle.stems.specs.Edge.{noHint, isTop}
@@ -210,7 +209,7 @@ saved-used es ss k h =
 -- ---- the heights that are saved
 -- the height of a stem's top edge (true) or of its bottom edge
 abbrev pub heightOf : Bool → StemHint → Fixed
-heightOf top s = pickF top (s .«ds_max») (s .«ds_min»)
+heightOf top s = cond top (s .«ds_max») (s .«ds_min»)
 
 -- an edge is one of stem k's, and a top (true) or no top
 pub record Bears (top : Bool) (k : ℕ) (e : Hint) : Type 0 where

@@ -1,9 +1,9 @@
 -- The two builds (01, "The map", Build).
-use mathlib.Core.Bool.{Bool, true, false}
+use mathlib.Core.Bool.{Bool, true, false, cond}
 use mathlib.Core.List.{List, [], _∷_}
 use lib.IntN.{pos}
 use lib.ListN.{getD, set}
-use Rattle.fixed.specs.Fixed.{fromBits, pickF}
+use Rattle.fixed.specs.Fixed.{fromBits}
 use Rattle.stems.specs.declared.mask.HintMask.{HintMask}
 use Rattle.stems.specs.declared.edge.StemHint.{StemHint}
 use Rattle.stems.specs.declared.edge.Hint.{Hint}
@@ -46,8 +46,8 @@ savedStem e s =
       «is_used» = true;
       min = s .min;
       max = s .max;
-      «ds_min» = pickF (isTop e) (s .«ds_min») (e .«ds_coord»);
-      «ds_max» = pickF (isTop e) (e .«ds_coord») (s .«ds_max»);
+      «ds_min» = cond (isTop e) (s .«ds_min») (e .«ds_coord»);
+      «ds_max» = cond (isTop e) (e .«ds_coord») (s .«ds_max»);
     }
 
 abbrev pub noStem : StemHint

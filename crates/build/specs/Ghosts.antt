@@ -2,10 +2,10 @@
 use mathlib.Core.Bool.{Bool, true, false, _||_}
 use Prim.Native.Nat.{_-_}
 use lib.Dec.{eqb}
-use lib.IntN.{pos, negsuc}
+use lib.IntN.{pos, negℤ, _+ℤ_, _-ℤ_}
 use lib.ListN.{getD}
 use Rattle.fixed.specs.declared.Fixed.{Fixed}
-use Rattle.fixed.specs.Fixed.{fromBits, addF, subF, mulF, roundF, lessF}
+use Rattle.fixed.specs.Fixed.{fromBits, whole, ZERO, HALF, addF, subF, mulF, roundF, lessF}
 use Rattle.stems.specs.declared.edge.Kind.{Kind}
 use Rattle.stems.specs.declared.edge.Kind.the-variants.{GhostBottom, GhostTop}
 use Rattle.stems.specs.declared.edge.Hint.{Hint}
@@ -14,10 +14,10 @@ use Rattle.hintmap.specs.declared.map.HintMap.{HintMap}
 use Rattle.hintmap.specs.Insert.{chosen, insertIn}
 
 abbrev pub none : Fixed
-none = fromBits (pos 0)
+none = ZERO
 
 abbrev pub halfPixel : Fixed
-halfPixel = fromBits (pos 32768)
+halfPixel = HALF
 
 -- a locked, synthetic edge
 abbrev pub ghostAt : Kind → Fixed → Fixed → Fixed → Hint
@@ -34,10 +34,10 @@ ghostAt k h d s =
 
 -- the em box: at −120.0 less a bit and at 880.0 and a bit, each rounded on the device and half a pixel further out
 abbrev pub boxBottom : Fixed
-boxBottom = fromBits (negsuc 7864320)
+boxBottom = fromBits (whole (negℤ (pos 120)) .bits -ℤ pos 1)
 
 abbrev pub boxTop : Fixed
-boxTop = fromBits (pos 57671681)
+boxTop = fromBits (whole (pos 880) .bits +ℤ pos 1)
 
 unfoldable pub emBottom : Fixed → Hint
 emBottom s = ghostAt GhostBottom boxBottom (subF (roundF (mulF boxBottom s)) halfPixel) s

@@ -10,8 +10,8 @@ use lib.Signed.{_<ℤ_, ltZ, quotZ, natAbs-le}
 use borrow.Author.Tests.{ltb-true}
 use mir.Syntax.{w32, w64}
 use mir.Val.{SFits, ofZ}
-use Rattle.fixed.specs.Whole.{nearest, wrap32, ratioOf}
-use Rattle.fixed.specs.Fixed.{overZero, quotient}
+use Rattle.fixed.specs.Whole.{nearest, wrap32}
+use Rattle.fixed.specs.Fixed.{MAX, overZero, quotientOf}
 use Rattle.fixed.proofs.Ints.{ints, of-sub, up-neg, dn-neg}
 use Rattle.fixed.proofs.Bits.{wrap-id}
 
@@ -93,29 +93,29 @@ nearest-above (pos n) d e = ap pos (halves n d)
 nearest-above (negsuc n) d e = absurd (true≢false e)
 
 -- ---- the quotient
-pub over-zero : (a b : ℤ) → SFits w32 b → ofZ w32 b ≡ 0 → overZero a ≡ quotient a b
-unfolding quotient
+pub over-zero : (a b : ℤ) → SFits w32 b → ofZ w32 b ≡ 0 → overZero a ≡ quotientOf a b
+unfolding quotientOf
 over-zero a (pos zero) h e = refl
 over-zero a (pos (suc n)) h e = absurd (omega arith)
 over-zero a (negsuc n) h e = absurd (omega (arith, h .sfits))
 
-pub over-zero-below : (a : ℤ) → ltZ a (pos 0) ≡ true → negsuc 2147483646 ≡ overZero a
+pub over-zero-below : (a : ℤ) → ltZ a (pos 0) ≡ true → negℤ (MAX .bits) ≡ overZero a
 unfolding overZero
 over-zero-below (pos n) e = absurd (no-natural-below n e)
 over-zero-below (negsuc n) e = refl
 
-pub over-zero-above : (a : ℤ) → ltZ a (pos 0) ≡ false → pos 2147483647 ≡ overZero a
+pub over-zero-above : (a : ℤ) → ltZ a (pos 0) ≡ false → MAX .bits ≡ overZero a
 unfolding overZero
 over-zero-above (pos n) e = refl
 over-zero-above (negsuc n) e = absurd (true≢false e)
 
-pub over-below : (a b : ℤ) → ltZ b (pos 0) ≡ true → ratioOf a (negsuc 65535) (natAbs b) ≡ quotient a b
-unfolding quotient
+pub over-below : (a b : ℤ) → ltZ b (pos 0) ≡ true → nearest (a *ℤ negsuc 65535) (natAbs b) ≡ quotientOf a b
+unfolding quotientOf
 over-below a (pos n) e = absurd (no-natural-below n e)
 over-below a (negsuc n) e = refl
 
-pub over-above : (a b : ℤ) → (ofZ w32 b ≡ 0 → ⊥) → ltZ b (pos 0) ≡ false → ratioOf a (pos 65536) (natAbs b) ≡ quotient a b
-unfolding quotient
+pub over-above : (a b : ℤ) → (ofZ w32 b ≡ 0 → ⊥) → ltZ b (pos 0) ≡ false → nearest (a *ℤ pos 65536) (natAbs b) ≡ quotientOf a b
+unfolding quotientOf
 over-above a (pos zero) h e = absurd (h refl)
 over-above a (pos (suc n)) h e = refl
 over-above a (negsuc n) h e = absurd (true≢false e)

@@ -1,56 +1,80 @@
--- Numbers in 16.16 (01, "Numbers in 16.16"), in its order. The code's `add` is `addF` here, and so for each: the exact result on the bits, rounded as 01 says, then its low 32 bits.
-use mathlib.Core.Bool.{Bool, true, false, _&&_}
-use Prim.Native.Nat.{zero, suc}
-use lib.IntN.{ℤ, pos, negsuc, negℤ, natAbs, _+ℤ_, _-ℤ_}
+-- Numbers in 16.16 (01, "Numbers in 16.16"), in its order. The code's `add` is `addF` here, and so for each: an exact whole number, rounded as 01 says, of which `wrapF` keeps the low 32 bits.
+use mathlib.Core.Bool.{Bool, cond, _&&_}
+use Prim.Native.Nat.{zero, suc, _-_, _^_}
+use lib.IntN.{ℤ, pos, negsuc, negℤ, natAbs, _+ℤ_, _-ℤ_, _*ℤ_}
 use lib.Signed.{ltZ, leZ, quotZ}
 use Rattle.fixed.specs.declared.Fixed.{Fixed}
-use Rattle.fixed.specs.Whole.{lowBits, clearLow, wrap32, ratioOf}
+use Rattle.fixed.specs.Whole.{lowBits, clearLow, wrap32, nearest}
 
 -- the number of these bits
 abbrev pub fromBits : ℤ → Fixed
 fromBits z = record { bits = z }
 
--- what wraps: the sum, the difference, the negation, the absolute value and the double
+-- the whole number z, so that 1.0 is 65536
+abbrev pub whole : ℤ → Fixed
+whole z = fromBits (z *ℤ pos 65536)
+
+-- 0, 1.0, 0.5, and the largest number, 0x7FFFFFFF
+abbrev pub ZERO : Fixed
+ZERO = whole (pos 0)
+
+abbrev pub ONE : Fixed
+ONE = whole (pos 1)
+
+abbrev pub HALF : Fixed
+HALF = fromBits (pos 32768)
+
+abbrev pub MAX : Fixed
+MAX = fromBits (pos (2 ^ 31 - 1))
+
+-- the number that the low 32 bits of an exact one are
+abbrev pub wrapF : ℤ → Fixed
+wrapF z = fromBits (wrap32 z)
+
+-- the sum, the difference, the negation, the absolute value and the double
 unfoldable pub addF : Fixed → Fixed → Fixed
-addF a b = fromBits (wrap32 (a .bits +ℤ b .bits))
+addF a b = wrapF (a .bits +ℤ b .bits)
 
 unfoldable pub subF : Fixed → Fixed → Fixed
-subF a b = fromBits (wrap32 (a .bits -ℤ b .bits))
+subF a b = wrapF (a .bits -ℤ b .bits)
 
 unfoldable pub negF : Fixed → Fixed
-negF a = fromBits (wrap32 (negℤ (a .bits)))
+negF a = wrapF (negℤ (a .bits))
 
 unfoldable pub absF : Fixed → Fixed
-absF a = fromBits (wrap32 (pos (natAbs (a .bits))))
+absF a = wrapF (pos (natAbs (a .bits)))
 
 unfoldable pub twiceF : Fixed → Fixed
-twiceF a = fromBits (wrap32 (a .bits +ℤ a .bits))
+twiceF a = wrapF (a .bits +ℤ a .bits)
 
 -- the product: a·b/65536
+abbrev pub productOf : ℤ → ℤ → ℤ
+productOf a b = nearest (a *ℤ b) 65536
+
 unfoldable pub mulF : Fixed → Fixed → Fixed
-mulF a b = fromBits (ratioOf (a .bits) (b .bits) 65536)
+mulF a b = wrapF (productOf (a .bits) (b .bits))
 
 -- a quotient by 0: the largest number, negated for a below 0
 unfoldable pub overZero : ℤ → ℤ
-overZero (pos a) = pos 2147483647
-overZero (negsuc a) = negℤ (pos 2147483647)
+overZero (pos a) = MAX .bits
+overZero (negsuc a) = negℤ (MAX .bits)
 
 -- the quotient: a·65536/b, which for b below 0 is a·(−65536)/|b|
-unfoldable pub quotient : ℤ → ℤ → ℤ
-quotient a (pos zero) = overZero a
-quotient a (pos (suc b)) = ratioOf a (pos 65536) (suc b)
-quotient a (negsuc b) = ratioOf a (negℤ (pos 65536)) (suc b)
+unfoldable pub quotientOf : ℤ → ℤ → ℤ
+quotientOf a (pos zero) = overZero a
+quotientOf a (pos (suc b)) = nearest (a *ℤ pos 65536) (suc b)
+quotientOf a (negsuc b) = nearest (a *ℤ negℤ (pos 65536)) (suc b)
 
 unfoldable pub divF : Fixed → Fixed → Fixed
-divF a b = fromBits (quotient (a .bits) (b .bits))
+divF a b = wrapF (quotientOf (a .bits) (b .bits))
 
 -- a·b/c, for c above 0
 unfoldable pub mulDivF : Fixed → Fixed → Fixed → Fixed
-mulDivF a b c = fromBits (ratioOf (a .bits) (b .bits) (natAbs (c .bits)))
+mulDivF a b c = wrapF (nearest (a .bits *ℤ b .bits) (natAbs (c .bits)))
 
--- rounding: the sum with 0.5, which wraps, without its low 16 bits
+-- rounding: the sum with 0.5, with its low 16 bits cleared
 unfoldable pub roundF : Fixed → Fixed
-roundF a = fromBits (clearLow 16 (wrap32 (a .bits +ℤ pos 32768)))
+roundF a = fromBits (clearLow 16 (addF a HALF .bits))
 
 -- the fraction: the low 16 bits
 unfoldable pub fractF : Fixed → Fixed
@@ -78,12 +102,9 @@ atMostF a b = leZ (a .bits) (b .bits)
 abbrev pub sameF : Fixed → Fixed → Bool
 sameF a b = atMostF a b && atMostF b a
 
-abbrev pub pickF : Bool → Fixed → Fixed → Fixed
-pickF true a b = a
-pickF false a b = b
-
+-- the lesser and the greater
 unfoldable pub minF : Fixed → Fixed → Fixed
-minF a b = pickF (atMostF a b) a b
+minF a b = cond (atMostF a b) a b
 
 unfoldable pub maxF : Fixed → Fixed → Fixed
-maxF a b = pickF (atMostF a b) b a
+maxF a b = cond (atMostF a b) b a

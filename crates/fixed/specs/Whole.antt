@@ -1,6 +1,6 @@
--- Whole numbers, as 01's "Numbers in 16.16" speaks of them: low bits, the rounding of a quotient, and what 32 bits hold.
+-- Whole numbers, as 01's "Numbers in 16.16" speaks of them: low bits, what 32 bits keep of a number, and the rounding of a quotient.
 use Prim.Native.Nat.{ℕ, suc, _+_, _-_, _*_, _/_, _%_, _^_}
-use lib.IntN.{ℤ, pos, negsuc, negℤ, _-ℤ_, _*ℤ_}
+use lib.IntN.{ℤ, pos, negsuc, negℤ, _-ℤ_}
 use mir.Syntax.{w32}
 use mir.Val.{toZ}
 
@@ -21,7 +21,3 @@ wrap32 z = toZ w32 (lowBits 32 z)
 unfoldable pub nearest : ℤ → ℕ → ℤ
 nearest (pos n) d = pos ((2 * n + d) / (2 * d))
 nearest (negsuc n) d = negℤ (pos ((2 * suc n + d) / (2 * d)))
-
--- a·b/d to the nearest, halves away from zero, low 32 bits
-unfoldable pub ratioOf : ℤ → ℤ → ℕ → ℤ
-ratioOf a b d = wrap32 (nearest (a *ℤ b) d)

@@ -3,7 +3,7 @@ ghost use mathlib.Core.Path.{_≡_};
 ghost use lib.Signed.{_<ℤ_};
 ghost use lib.IntN.{pos, natAbs, _*ℤ_};
 ghost use Prim.Native.Nat.{_≤_, _<_, _^_};
-ghost use Rattle.fixed.specs.Whole.{wrap32, nearest, ratioOf};
+ghost use Rattle.fixed.specs.Whole.{wrap32, nearest};
 ghost use Rattle.fixed.specs.Fixed.{fromBits, addF, subF, negF, absF, twiceF, mulF, divF, mulDivF, roundF, fractF, halfF, midpointF, truncF, lessF, atMostF, sameF, minF, maxF};
 
 // The low 32 bits of x, as a signed number.
@@ -50,7 +50,7 @@ fn nearest_div(p: i64, d: u32) -> i64
 // a · b / d to the nearest, halves away from zero, wrapping: the product, the quotient and a·b/c are each one of these.
 fn ratio(a: i32, b: i32, d: u32) -> i32
     requires { ⌜ 0 < d ⌝ }
-    ensures { λ r. ⌜ r ≡ ratioOf a b d ⌝ }
+    ensures { λ r. ⌜ r ≡ wrap32 (nearest (a *ℤ b) d) ⌝ }
 {
     wrap(nearest_div(product(a, b), d))
 }

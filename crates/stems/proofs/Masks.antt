@@ -1,6 +1,6 @@
 -- Laws of masks: the mask of all stems, a stem cleared, and when two masks are the same. Assumes nothing.
 use mathlib.Core.Path.{_≡_, refl, sym, ap}
-use mathlib.Core.Bool.{Bool, true, false, _&&_, true≢false}
+use mathlib.Core.Bool.{Bool, true, false, cond, _&&_, true≢false}
 use mathlib.Core.List.{List, [], _∷_}
 use Prim.Native.Nat.{ℕ, zero, suc, _-_, _/_, _%_, _^_, _<_, _≤_}
 use native.Mathlib.Nat.{le-div-iff-mul-le, div-eq-sub-div, div-div-eq-div-mul, div-one, pow-succ'}
@@ -11,7 +11,7 @@ use lib.Pow.{pow-pos}
 use lib.Seq.{getD-set-same, getD-set-other}
 use borrow.Author.Tests.{eqb-true, eqb-false, eq-eqb}
 use Rattle.stems.specs.declared.mask.HintMask.{HintMask}
-use Rattle.stems.specs.Mask.{ofBytes, allActive, isActive, cleared, clearedBy, sameMask, sameBytes, byteOf, weight}
+use Rattle.stems.specs.Mask.{ofBytes, allActive, isActive, cleared, without, sameMask, sameBytes, byteOf, weight}
 
 -- Whether a test passes at each number below n.
 abbrev pub upTo : (ℕ → Bool) → ℕ → Bool
@@ -80,7 +80,7 @@ inside (x ∷ xs) (suc n) h = omega (arith, inside xs n h)
 active-inside : (m : HintMask) (i : ℕ) → isActive m i ≡ true → i / 8 < length (m .bytes)
 active-inside m i e = inside (m .bytes) (i / 8) (omega (arith, active-holds m i e, pow-pos (7 - i % 8)))
 
-off : (m : HintMask) (i : ℕ) (t : Bool) → isActive m i ≡ t → isActive (clearedBy t m i) i ≡ false
+off : (m : HintMask) (i : ℕ) (t : Bool) → isActive m i ≡ t → isActive (cond t (without m i) m) i ≡ false
 unfolding isActive
 off m i false e = e
 off m i true e =
@@ -91,7 +91,7 @@ pub clear-off : (m : HintMask) (i : ℕ) → isActive (cleared m i) i ≡ false
 unfolding cleared
 clear-off m i = off m i (isActive m i) refl
 
-kept : (m : HintMask) (i j : ℕ) → (i ≡ j → ⊥) → isActive m i ≡ true → (t : Bool) → eqb (j / 8) (i / 8) ≡ t → isActive (clearedBy true m i) j ≡ isActive m j
+kept : (m : HintMask) (i j : ℕ) → (i ≡ j → ⊥) → isActive m i ≡ true → (t : Bool) → eqb (j / 8) (i / 8) ≡ t → isActive (without m i) j ≡ isActive m j
 unfolding isActive
 kept m i j n e true q =
     let p = eqb-true (j / 8) (i / 8) q in
@@ -99,7 +99,7 @@ kept m i j n e true q =
     rw (p, getD-set-same (m .bytes) (i / 8) (byteOf m i - weight i) 0 (active-inside m i e), other-bit (byteOf m i) (7 - i % 8) (7 - j % 8) differ (eqb-true _ _ e))
 kept m i j n e false q = rw (getD-set-other (m .bytes) (i / 8) (j / 8) (byteOf m i - weight i) 0 (eqb-false _ _ q))
 
-keeps : (m : HintMask) (i j : ℕ) → (i ≡ j → ⊥) → (t : Bool) → isActive m i ≡ t → isActive (clearedBy t m i) j ≡ isActive m j
+keeps : (m : HintMask) (i j : ℕ) → (i ≡ j → ⊥) → (t : Bool) → isActive m i ≡ t → isActive (cond t (without m i) m) j ≡ isActive m j
 keeps m i j n false e = refl
 keeps m i j n true e = kept m i j n e (eqb (j / 8) (i / 8)) refl
 

@@ -8,9 +8,7 @@ use contract.Lifetimes.{Lfts}
 use denote.Triple.Clauses.{AtExit}
 use Rattle.fixed.specs.declared.Fixed.{Fixed}
 use Rattle.stems.specs.declared.edge.StemHint.{StemHint}
-use Rattle.stems.specs.declared.edge.Kind.{Kind}
 use Rattle.stems.specs.declared.edge.Hint.{Hint}
-use Rattle.stems.specs.declared.edge.Shape.{Shape}
 use Rattle.stems.specs.declared.mask.HintMask.{HintMask}
 use Rattle.stems.proofs.edge.Hint.none.Reads as none-reads
 use Rattle.stems.proofs.edge.Hint.setup.Reads as setup-reads

@@ -1,9 +1,9 @@
 -- Stems and their edges (01, "Stems and masks", first paragraph).
-use mathlib.Core.Bool.{Bool, true, false, _&&_}
+use mathlib.Core.Bool.{Bool, true, false, cond, _&&_}
 use Prim.Native.Nat.{ℕ}
-use lib.IntN.{pos, negsuc}
+use lib.IntN.{pos, negℤ}
 use Rattle.fixed.specs.declared.Fixed.{Fixed}
-use Rattle.fixed.specs.Fixed.{fromBits, subF, mulF, lessF, sameF, pickF}
+use Rattle.fixed.specs.Fixed.{whole, ZERO, subF, mulF, lessF, sameF}
 use Rattle.stems.specs.declared.edge.StemHint.{StemHint}
 use Rattle.stems.specs.declared.edge.Kind.{Kind}
 use Rattle.stems.specs.declared.edge.Kind.the-variants.{Absent, GhostBottom, GhostTop, PairBottom, PairTop}
@@ -84,9 +84,9 @@ noHint =
       locked = false;
       synthetic = false;
       index = 0;
-      «cs_coord» = fromBits (pos 0);
-      «ds_coord» = fromBits (pos 0);
-      scale = fromBits (pos 0);
+      «cs_coord» = ZERO;
+      «ds_coord» = ZERO;
+      scale = ZERO;
     }
 
 -- the edge at another device height, locked or not as l says
@@ -109,32 +109,29 @@ abbrev pub lockedAt : Hint → Fixed → Hint
 lockedAt e d = withDevice true e d
 
 -- ---- a stem's edges
--- by the width max − min: at −21.0 a bottom ghost at max, at −20.0 a top ghost at min, at any other below 0 a pair with its ends swapped
-abbrev pub shapeBy : Bool → Bool → Bool → StemHint → Shape
-shapeBy true t n s = BottomGhost (s .max)
-shapeBy false true n s = TopGhost (s .min)
-shapeBy false false true s = Pair (s .max) (s .min)
-shapeBy false false false s = Pair (s .min) (s .max)
-
+-- max − min
 abbrev pub width : StemHint → Fixed
 width s = subF (s .max) (s .min)
 
+-- a width of −21.0 is a bottom ghost at max, −20.0 a top ghost at min, any other negative width a pair with its ends swapped
 unfoldable pub shapeOf : StemHint → Shape
 shapeOf s =
-    shapeBy (sameF (width s) (fromBits (negsuc 1376255))) (sameF (width s) (fromBits (negsuc 1310719))) (lessF (width s) (fromBits (pos 0))) s
+    cond (sameF (width s) (whole (negℤ (pos 21)))) (BottomGhost (s .max))
+    (cond (sameF (width s) (whole (negℤ (pos 20)))) (TopGhost (s .min))
+    (cond (lessF (width s) ZERO) (Pair (s .max) (s .min)) (Pair (s .min) (s .max))))
 
 -- the bottom edge (true) or the top edge of a shape; a ghost has no other
 unfoldable pub edgeOf : Shape → Bool → ℕ → Fixed → Hint
 edgeOf (BottomGhost h) true i s = hintAt GhostBottom h i s
-edgeOf (BottomGhost h) false i s = hintAt Absent (fromBits (pos 0)) i s
-edgeOf (TopGhost h) true i s = hintAt Absent (fromBits (pos 0)) i s
+edgeOf (BottomGhost h) false i s = hintAt Absent ZERO i s
+edgeOf (TopGhost h) true i s = hintAt Absent ZERO i s
 edgeOf (TopGhost h) false i s = hintAt GhostTop h i s
 edgeOf (Pair b t) true i s = hintAt PairBottom b i s
 edgeOf (Pair b t) false i s = hintAt PairTop t i s
 
 -- the height that a used stem has saved for an edge
 abbrev pub savedFor : StemHint → Hint → Fixed
-savedFor s e = pickF (isTop e) (s .«ds_max») (s .«ds_min»)
+savedFor s e = cond (isTop e) (s .«ds_max») (s .«ds_min»)
 
 -- an edge of a used stem starts locked at the saved height
 abbrev pub usedBy : Bool → StemHint → Hint → Hint

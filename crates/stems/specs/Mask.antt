@@ -1,5 +1,5 @@
 -- Masks (01, "Stems and masks", second paragraph): twelve bytes, a bit for each of 96 stems.
-use mathlib.Core.Bool.{Bool, true, false, _&&_}
+use mathlib.Core.Bool.{Bool, true, false, cond, _&&_}
 use mathlib.Core.List.{List, [], _∷_, _++_}
 use Prim.Native.Nat.{ℕ, _-_, _/_, _%_, _^_}
 use lib.Dec.{eqb, ltb}
@@ -13,13 +13,9 @@ ofBytes bs = record { bytes = bs }
 abbrev pub allActive : HintMask
 allActive = ofBytes (replicate 12 255)
 
--- over twelve bytes: every stem; else the bytes, filled with zeros
-abbrev pub maskBy : Bool → List ℕ → HintMask
-maskBy true bs = allActive
-maskBy false bs = ofBytes (bs ++ replicate (12 - length bs) 0)
-
+-- over twelve bytes every stem is active; a shorter mask is filled with zeros
 unfoldable pub maskOf : List ℕ → HintMask
-maskOf bs = maskBy (ltb 12 (length bs)) bs
+maskOf bs = cond (ltb 12 (length bs)) allActive (ofBytes (bs ++ replicate (12 - length bs) 0))
 
 -- the byte that holds a stem's bit, and the bit's weight there: stem 0 has the most significant of the first byte
 abbrev pub byteOf : HintMask → ℕ → ℕ
@@ -31,13 +27,12 @@ weight i = 2 ^ (7 - i % 8)
 unfoldable pub isActive : HintMask → ℕ → Bool
 isActive m i = eqb (byteOf m i / weight i % 2) 1
 
--- the mask without a stem
-abbrev pub clearedBy : Bool → HintMask → ℕ → HintMask
-clearedBy true m i = ofBytes (set (m .bytes) (i / 8) (byteOf m i - weight i))
-clearedBy false m i = m
+-- the mask without a stem: its bit cleared, where it is set
+abbrev pub without : HintMask → ℕ → HintMask
+without m i = ofBytes (set (m .bytes) (i / 8) (byteOf m i - weight i))
 
 unfoldable pub cleared : HintMask → ℕ → HintMask
-cleared m i = clearedBy (isActive m i) m i
+cleared m i = cond (isActive m i) (without m i) m
 
 -- the same bytes
 unfoldable pub sameBytes : List ℕ → List ℕ → Bool

@@ -1,49 +1,44 @@
 -- Laws of the search among a family's edges, and of zones changed one after the other. Assumes nothing.
 use mathlib.Core.Path.{_≡_, refl, ap}
-use mathlib.Core.Bool.{Bool, true, false}
+use mathlib.Core.Bool.{Bool, true, false, cond}
 use mathlib.Core.List.{List, [], _∷_, _++_, map}
 use Prim.Native.Nat.{ℕ, zero, suc, _+_, _≤_, _<_}
 use native.Mathlib.Numerals.{add-one}
-use native.Mathlib.Omega.{arith}
-use lib.ListN.{length, take, drop, getD, set, length-take, drop-of-length-le}
-use lib.Seq.{drop-cons, getD-take}
+use lib.ListN.{length, take, drop, getD, set}
 use Rattle.fixed.specs.declared.Fixed.{Fixed}
-use Rattle.fixed.specs.Fixed.{sameF}
+use Rattle.fixed.specs.Fixed.{ZERO, sameF}
 use Rattle.zones.specs.declared.blues.Blues.{Blues}
 use Rattle.zones.specs.declared.blues.BlueZone.{BlueZone}
 use Rattle.zones.specs.declared.blues.Zones.{Zones}
 use Rattle.zones.specs.declared.blues.Nearest.{Nearest}
-use Rattle.zones.specs.Zones.{none, noBlue, listOf, familyEdge, nearer, nearestFrom, endedBy}
+use Rattle.zones.specs.Zones.{noBlue, listOf, familyEdge, nearer, nearestFrom}
+use Rattle.zones.proofs.Taken.{taken-more, taken-ends}
 
 -- the search from pair i on
-abbrev pub searchFrom : Bool → Blues → Fixed → Fixed → Nearest → ℕ → Fixed
+abbrev pub searchFrom : Bool → Blues → Fixed → Fixed → Nearest → ℕ → Nearest
 searchFrom bottom bs flat limit near i = nearestFrom flat limit near (map (familyEdge bottom) (drop i (listOf bs)))
 
 module _ (bottom : Bool) (bs : Blues) (fits : bs .count ≤ length (bs .pairs)) (flat limit : Fixed) (near : Nearest) (i : ℕ) where
   -- it takes in pair i, unless the nearest so far ends it
   search-at : i < bs .count →
       searchFrom bottom bs flat limit near i ≡
-      endedBy (sameF (near .diff) none) (near .edge) (searchFrom bottom bs flat limit (nearer flat limit near (familyEdge bottom (getD (bs .pairs) i noBlue))) (i + 1))
+      cond (sameF (near .diff) ZERO) near (searchFrom bottom bs flat limit (nearer flat limit near (familyEdge bottom (getD (bs .pairs) i noBlue))) (i + 1))
   unfolding nearestFrom
-  search-at l =
-      let k : i < length (listOf bs) = simp length-take (omega arith) in
-      rw (drop-cons (listOf bs) i noBlue k, getD-take (bs .count) (bs .pairs) i noBlue l, add-one i)
+  search-at l = rw (taken-more (bs .count) (bs .pairs) fits i noBlue l)
 
   -- a distance of 0 ends it
-  pub search-found : i < bs .count → sameF (near .diff) none ≡ true → searchFrom bottom bs flat limit near i ≡ near .edge
+  pub search-found : i < bs .count → sameF (near .diff) ZERO ≡ true → searchFrom bottom bs flat limit near i ≡ near
   search-found l t = rw (search-at l, t)
 
   -- any other distance lets it take in pair i
-  pub search-goes : i < bs .count → sameF (near .diff) none ≡ false →
+  pub search-goes : i < bs .count → sameF (near .diff) ZERO ≡ false →
       searchFrom bottom bs flat limit near i ≡ searchFrom bottom bs flat limit (nearer flat limit near (familyEdge bottom (getD (bs .pairs) i noBlue))) (i + 1)
   search-goes l t = rw (search-at l, t)
 
   -- the end of the list ends it
-  pub search-ends : bs .count ≤ i → searchFrom bottom bs flat limit near i ≡ near .edge
+  pub search-ends : bs .count ≤ i → searchFrom bottom bs flat limit near i ≡ near
   unfolding nearestFrom
-  search-ends l =
-      let k : length (listOf bs) ≤ i = simp length-take (omega arith) in
-      rw (drop-of-length-le (listOf bs) k)
+  search-ends l = rw (taken-ends (bs .count) (bs .pairs) fits i l)
 
 -- the zones before i changed alike; at the count this is `eachIn`
 abbrev pub eachBefore : (BlueZone → BlueZone) → Zones → ℕ → Zones

@@ -1,19 +1,18 @@
 -- Laws of the zone that holds an edge, and of captured edges. Assumes nothing.
 use mathlib.Core.Path.{_≡_, refl, sym, _∙_}
-use mathlib.Core.Bool.{Bool, true, false, true≢false}
+use mathlib.Core.Bool.{Bool, true, false, cond, true≢false}
 use Prim.Native.Nat.{ℕ, _+_, _≤_, _<_}
-use native.Mathlib.Numerals.{add-one}
-use native.Mathlib.Omega.{arith}
-use lib.ListN.{length, take, drop, getD, length-take, drop-of-length-le}
-use lib.Seq.{drop-cons, getD-take}
+use lib.ListN.{length, take, drop, getD}
 use Rattle.fixed.specs.declared.Fixed.{Fixed}
+use Rattle.fixed.specs.Fixed.{addF}
 use Rattle.stems.specs.declared.edge.Hint.{Hint}
-use Rattle.stems.specs.Edge.{isValid, withDevice}
+use Rattle.stems.specs.Edge.{isValid, withDevice, lockedAt}
 use Rattle.zones.specs.declared.state.HintState.{HintState}
 use Rattle.zones.specs.declared.capture.Held.{Held}
 use Rattle.zones.specs.declared.capture.Held.the-variants.{By, Free}
 use Rattle.zones.specs.Zones.{noZone}
-use Rattle.zones.specs.Capture.{holds, firstBy, firstHolding, lifted, liftedBy, capturedBy, captureOf}
+use Rattle.zones.specs.Capture.{holds, firstHolding, lifted}
+use Rattle.zones.proofs.Taken.{taken-more, taken-ends}
 
 -- the first of a state's zones, from zone i on, that holds
 abbrev pub holderFrom : HintState → Hint → Hint → ℕ → Held
@@ -23,20 +22,14 @@ module _ (st : HintState) (fits : st .«zone_count» ≤ length (st .zones)) (b 
   -- it is zone i where that holds, and is among the later ones where not
   pub holder-at : i < st .«zone_count» →
       let z = getD (st .zones) i noZone in
-      holderFrom st b t i ≡ firstBy (holds (st .«blue_fuzz») b t z) z (holderFrom st b t (i + 1))
+      holderFrom st b t i ≡ cond (holds (st .«blue_fuzz») b t z) (By z) (holderFrom st b t (i + 1))
   unfolding firstHolding
-  holder-at l =
-      let zs = take (st .«zone_count») (st .zones) in
-      let k : i < length zs = simp length-take (omega arith) in
-      rw (drop-cons zs i noZone k, getD-take (st .«zone_count») (st .zones) i noZone l, add-one i)
+  holder-at l = rw (taken-more (st .«zone_count») (st .zones) fits i noZone l)
 
   -- no zone is left
   pub holder-ends : st .«zone_count» ≤ i → holderFrom st b t i ≡ Free
   unfolding firstHolding
-  holder-ends l =
-      let zs = take (st .«zone_count») (st .zones) in
-      let k : length zs ≤ i = simp length-take (omega arith) in
-      rw (drop-of-length-le zs k)
+  holder-ends l = rw (taken-ends (st .«zone_count») (st .zones) fits i l)
 
 -- what a captured edge keeps, and that it is locked where it is valid
 pub record Keeps (e r : Hint) : Type 0 where
@@ -55,15 +48,6 @@ capture-keeps e by = go (isValid e) refl
     alike : (l : Bool) (d : Fixed) → (isValid e ≡ true → l ≡ true) → Keeps e (withDevice l e d)
     alike l d k = record { kind = refl; synthetic = refl; index = refl; height = refl; scale = refl; locks = k }
 
-    go : (v : Bool) → isValid e ≡ v → Keeps e (liftedBy v e by)
+    go : (v : Bool) → isValid e ≡ v → Keeps e (cond v (lockedAt e (addF (e .«ds_coord») by)) e)
     go true p = alike true _ (λ q. refl)
     go false p = alike (e .locked) (e .«ds_coord») (λ q. absurd (true≢false (sym q ∙ p)))
-
--- edges that are not captured stay
-pub capture-free : (st : HintState) (b t : Hint) → captureOf st b t .captured ≡ false → (captureOf st b t .bottom ≡ b) × (captureOf st b t .top ≡ t)
-unfolding captureOf
-capture-free st b t = go (firstHolding (st .«blue_fuzz») b t (take (st .«zone_count») (st .zones)))
-  where
-    go : (h : Held) → capturedBy h st b t .captured ≡ false → (capturedBy h st b t .bottom ≡ b) × (capturedBy h st b t .top ≡ t)
-    go Free e = (refl, refl)
-    go (By z) e = absurd (true≢false e)

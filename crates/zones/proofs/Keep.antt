@@ -1,42 +1,43 @@
 -- Laws of the zones that are kept. Assumes nothing.
 use mathlib.Core.Path.{_≡_, refl, sym, ap, _∙_}
-use mathlib.Core.Bool.{Bool, true, false, _||_}
+use mathlib.Core.Bool.{Bool, true, false, cond, _||_}
 use mathlib.Core.List.{List, [], _∷_, _++_, map, append-assoc, append-nil}
 use Prim.Native.Nat.{ℕ, suc, _+_, _-_, _≤_, _<_}
-use native.Mathlib.Numerals.{add-one}
 use native.Mathlib.Omega.{arith}
 use lib.Dec.{eqb}
-use lib.ListN.{length, take, drop, getD, set, drop-of-length-le, length-append, length-take, length-map}
+use lib.ListN.{length, take, drop, getD, set, length-append, length-take, length-map}
 use borrow.Author.Tests.{ne-eqb}
-use lib.Seq.{drop-cons, set-at, take-append-seam, drop-append-seam}
+use lib.Seq.{set-at, take-append-seam, drop-append-seam}
 use Rattle.fixed.specs.declared.Fixed.{Fixed}
-use Rattle.fixed.specs.Fixed.{subF, lessF, maxF}
+use Rattle.fixed.specs.Fixed.{ZERO, subF, lessF, maxF}
 use Rattle.zones.specs.declared.blues.Blue.{Blue}
 use Rattle.zones.specs.declared.blues.Blues.{Blues}
 use Rattle.zones.specs.declared.blues.BlueZone.{BlueZone}
 use Rattle.zones.specs.declared.blues.Zones.{Zones}
 use Rattle.zones.specs.declared.state.HintParams.{HintParams}
-use Rattle.zones.specs.Zones.{none, noBlue, noZone, heightOf, zoneOf, consBy, sift, bluesZones, greatestFrom, filled, packed, noZones, pushed, keptBy, keptIn, readIn, listOf, kept, eachIn}
+use Rattle.zones.specs.Zones.{noBlue, noZone, heightOf, zoneOf, sift, bluesZones, greatestFrom, filled, packed, noZones, pushed, keptIn, readIn, listOf, kept, eachIn}
 use Rattle.zones.specs.State.{emBox, stateBy, stateOf}
+use Rattle.zones.proofs.Taken.{taken-more, taken-ends}
 
 -- a pair read adds at most one zone
 pub kept-count : (other : Bool) (q : Zones) (b : Blue) → keptIn other q b .count ≤ q .count + 1
 unfolding keptIn
-kept-count other q b = go (lessF (heightOf b) none)
+kept-count other q b = go (lessF (heightOf b) ZERO)
   where
-    go : (t : Bool) → keptBy t (other || eqb (q .count) 0) q b .count ≤ q .count + 1
+    go : (t : Bool) → cond t q (pushed q (zoneOf (other || eqb (q .count) 0) b) (heightOf b)) .count ≤ q .count + 1
     go true = omega arith
     go false = omega arith
 
--- a pair more of those to be read
-pub read-more : (other : Bool) (q : Zones) (bs : List Blue) (i : ℕ) → i < length bs → readIn other q (drop i bs) ≡ readIn other (keptIn other q (getD bs i noBlue)) (drop (i + 1) bs)
-unfolding readIn
-read-more other q bs i h = rw (add-one, drop-cons bs i noBlue)
+module _ (other : Bool) (q : Zones) (n : ℕ) (bs : List Blue) (fits : n ≤ length bs) (i : ℕ) where
+  -- a pair more of those to be read
+  pub read-more : i < n → readIn other q (drop i (take n bs)) ≡ readIn other (keptIn other q (getD bs i noBlue)) (drop (i + 1) (take n bs))
+  unfolding readIn
+  read-more l = rw (taken-more n bs fits i noBlue l)
 
--- none are left
-pub read-ends : (other : Bool) (q : Zones) (bs : List Blue) (i : ℕ) → length bs ≤ i → readIn other q (drop i bs) ≡ q
-unfolding readIn
-read-ends other q bs i h = rw (drop-of-length-le bs h)
+  -- none are left
+  pub read-ends : n ≤ i → readIn other q (drop i (take n bs)) ≡ q
+  unfolding readIn
+  read-ends l = rw (taken-ends n bs fits i l)
 
 -- ---- zones kept, as a list
 -- the height of a pair is that of its zone
@@ -54,7 +55,7 @@ push-packed zs z h =
     let more : length (zs ++ z ∷ []) ≡ length zs + 1 = length-append zs (z ∷ []) in
     let left : 12 - length zs ≡ suc (12 - (length zs + 1)) = omega arith in
     let stored : set (filled zs) (length zs) z ≡ filled (zs ++ z ∷ []) = rw (left, more) (set-at zs noZone _ z (length zs) refl ∙ sym (append-assoc zs (z ∷ []) _)) in
-    rw (stored, more, greatest-last none zs z)
+    rw (stored, more, greatest-last ZERO zs z)
 
 -- ---- a list that is read
 -- the kind that every zone gets which is kept once there are m
@@ -67,7 +68,7 @@ Reads other bottom bs =
     (zs : List BlueZone) → Steady other bottom (length zs) → length zs + length bs ≤ 12 → readIn other (packed zs) bs ≡ packed (zs ++ map (zoneOf bottom) (sift bs))
 
 module _ (other bottom : Bool) where
-  read-one : (t : Bool) (b : Blue) (bs : List Blue) → Reads other bottom bs → (zs : List BlueZone) → lessF (heightOf b) none ≡ t → Steady other bottom (length zs) → length zs + suc (length bs) ≤ 12 → readIn other (keptIn other (packed zs) b) bs ≡ packed (zs ++ map (zoneOf bottom) (consBy t b (sift bs)))
+  read-one : (t : Bool) (b : Blue) (bs : List Blue) → Reads other bottom bs → (zs : List BlueZone) → lessF (heightOf b) ZERO ≡ t → Steady other bottom (length zs) → length zs + suc (length bs) ≤ 12 → readIn other (keptIn other (packed zs) b) bs ≡ packed (zs ++ map (zoneOf bottom) (cond t (sift bs) (b ∷ sift bs)))
   unfolding keptIn
   read-one true b bs ih zs e k h = rw e (ih zs k (omega arith))
   read-one false b bs ih zs e k h =
@@ -79,14 +80,14 @@ module _ (other bottom : Bool) where
   read-all : (bs : List Blue) → Reads other bottom bs
   unfolding readIn sift
   read-all [] zs k h = rw (append-nil zs)
-  read-all (b ∷ bs) zs k h = read-one (lessF (heightOf b) none) b bs (read-all bs) zs refl k h
+  read-all (b ∷ bs) zs k h = read-one (lessF (heightOf b) ZERO) b bs (read-all bs) zs refl k h
 
 -- other blues are bottom zones
 pub read-others : (zs : List BlueZone) (bs : List Blue) → length zs + length bs ≤ 12 → readIn true (packed zs) bs ≡ packed (zs ++ map (zoneOf true) (sift bs))
 read-others zs bs h = read-all true true bs zs (λ n q. refl) h
 
 -- of the blues the first kept is a bottom zone, and the later ones are top zones
-first-kept : (t : Bool) (b : Blue) (bs : List Blue) → lessF (heightOf b) none ≡ t → length bs < 12 → readIn false noZones bs ≡ packed (bluesZones (sift bs)) → readIn false (keptIn false noZones b) bs ≡ packed (bluesZones (consBy t b (sift bs)))
+first-kept : (t : Bool) (b : Blue) (bs : List Blue) → lessF (heightOf b) ZERO ≡ t → length bs < 12 → readIn false noZones bs ≡ packed (bluesZones (sift bs)) → readIn false (keptIn false noZones b) bs ≡ packed (bluesZones (cond t (sift bs) (b ∷ sift bs)))
 unfolding keptIn bluesZones
 first-kept true b bs e h ih = rw e ih
 first-kept false b bs e h ih =
@@ -96,15 +97,15 @@ first-kept false b bs e h ih =
 pub read-blues : (bs : List Blue) → length bs ≤ 12 → readIn false noZones bs ≡ packed (bluesZones (sift bs))
 unfolding readIn sift bluesZones
 read-blues [] h = refl
-read-blues (b ∷ bs) h = first-kept (lessF (heightOf b) none) b bs refl (omega arith) (read-blues bs (omega arith))
+read-blues (b ∷ bs) h = first-kept (lessF (heightOf b) ZERO) b bs refl (omega arith) (read-blues bs (omega arith))
 
 -- no more zones than pairs
 sift-length : (bs : List Blue) → length (sift bs) ≤ length bs
 unfolding sift
 sift-length [] = omega arith
-sift-length (b ∷ bs) = go (lessF (heightOf b) none) (sift-length bs)
+sift-length (b ∷ bs) = go (lessF (heightOf b) ZERO) (sift-length bs)
   where
-    go : (t : Bool) → length (sift bs) ≤ length bs → length (consBy t b (sift bs)) ≤ suc (length bs)
+    go : (t : Bool) → length (sift bs) ≤ length bs → length (cond t (sift bs) (b ∷ sift bs)) ≤ suc (length bs)
     go true h = omega arith
     go false h = omega arith
 

@@ -1,3 +1,4 @@
+pub mod Taken
 pub mod Keep
 pub mod Family
 pub mod Holding

@@ -1,16 +1,16 @@
 -- The state that parameters and a scale make (01, "Zones").
-use mathlib.Core.Bool.{Bool, true, false, _&&_, _||_}
+use mathlib.Core.Bool.{Bool, true, false, cond, _&&_, _||_}
 use mathlib.Core.List.{List, [], map}
 use Prim.Native.Nat.{_≤_}
 use lib.Dec.{eqb}
-use lib.IntN.{ℤ, pos, negsuc}
+use lib.IntN.{ℤ, pos, negsuc, negℤ}
 use lib.ListN.{length, getD}
 use Rattle.fixed.specs.declared.Fixed.{Fixed}
-use Rattle.fixed.specs.Fixed.{fromBits, subF, divF, mulDivF, lessF, minF, pickF}
+use Rattle.fixed.specs.Fixed.{fromBits, whole, ZERO, ONE, subF, divF, mulDivF, lessF, minF}
 use Rattle.zones.specs.declared.blues.BlueZone.{BlueZone}
 use Rattle.zones.specs.declared.state.HintParams.{HintParams}
 use Rattle.zones.specs.declared.state.HintState.{HintState}
-use Rattle.zones.specs.Zones.{none, noBlue, whollyBelow, whollyAbove, kept, greatestFrom, movedFlat, deviceFlat, filled}
+use Rattle.zones.specs.Zones.{noBlue, whollyBelow, whollyAbove, kept, greatestFrom, movedFlat, deviceFlat, filled}
 
 -- what opening ensures of every list
 pub record Counted (p : HintParams) : Type 0 where
@@ -20,9 +20,6 @@ pub record Counted (p : HintParams) : Type 0 where
   pub familyOthers : p .«family_other_blues» .count ≤ 7
 
 -- ---- em-box hints
-abbrev pub one : Fixed
-one = fromBits (pos 65536)
-
 abbrev pub isOne : ℤ → Bool
 isOne (pos n) = eqb n 1
 isOne (negsuc n) = false
@@ -31,18 +28,18 @@ isOne (negsuc n) = false
 unfoldable pub emBox : HintParams → Bool
 emBox p =
     isOne (p .«language_group») && (eqb (p .blues .count) 0 || (eqb (p .blues .count) 2
-    && (whollyBelow (fromBits (negsuc 7864319)) (getD (p .blues .pairs) 0 noBlue) && whollyAbove (fromBits (pos 57671680)) (getD (p .blues .pairs) 1 noBlue))))
+    && (whollyBelow (whole (negℤ (pos 120))) (getD (p .blues .pairs) 0 noBlue) && whollyAbove (whole (pos 880)) (getD (p .blues .pairs) 1 noBlue))))
 
 -- ---- step 3: blue scale is at most 1.0/(the greatest height), where that is above 0
 unfoldable pub clampedScale : Fixed → Fixed → Fixed
-clampedScale bs g = pickF (lessF none g && lessF (divF one g) bs) (divF one g) bs
+clampedScale bs g = cond (lessF ZERO g && lessF (divF ONE g) bs) (divF ONE g) bs
 
 -- ---- step 4: overshoot is suppressed below the blue scale, with a boost of 39322 − 39322·scale/blue scale, at most 0x7FFF
 abbrev pub suppresses : Fixed → Fixed → Bool
 suppresses s bs = lessF s bs
 
 unfoldable pub boostOf : Fixed → Fixed → Fixed
-boostOf s bs = pickF (suppresses s bs) (minF (subF (fromBits (pos 39322)) (mulDivF (fromBits (pos 39322)) s bs)) (fromBits (pos 32767))) none
+boostOf s bs = cond (suppresses s bs) (minF (subF (fromBits (pos 39322)) (mulDivF (fromBits (pos 39322)) s bs)) (fromBits (pos 32767))) ZERO
 
 -- ---- the state
 -- the zones that are kept, and the blue scale that they allow
@@ -50,11 +47,11 @@ abbrev pub keptOf : HintParams → List BlueZone
 keptOf p = kept (p .blues) (p .«other_blues»)
 
 abbrev pub scaleOf : HintParams → Fixed
-scaleOf p = clampedScale (p .«blue_scale») (greatestFrom none (keptOf p))
+scaleOf p = clampedScale (p .«blue_scale») (greatestFrom ZERO (keptOf p))
 
 -- steps 2 and 5, of one zone
 abbrev pub finished : HintParams → Fixed → Fixed → BlueZone → BlueZone
-finished p s boost z = deviceFlat s boost (movedFlat (p .«family_other_blues») (p .«family_blues») (divF one s) z)
+finished p s boost z = deviceFlat s boost (movedFlat (p .«family_other_blues») (p .«family_blues») (divF ONE s) z)
 
 abbrev pub stateWith : HintParams → Fixed → Fixed → Bool → Bool → Fixed → List BlueZone → HintState
 stateWith p s bs suppress em boost zs =
@@ -72,7 +69,7 @@ stateWith p s bs suppress em boost zs =
 
 -- em-box hints: no zones, the blue scale unclamped, no suppression and no boost
 abbrev pub stateBy : Bool → HintParams → Fixed → HintState
-stateBy true p s = stateWith p s (p .«blue_scale») false true none []
+stateBy true p s = stateWith p s (p .«blue_scale») false true ZERO []
 stateBy false p s =
     stateWith p s (scaleOf p) (suppresses s (scaleOf p)) false (boostOf s (scaleOf p)) (map (finished p s (boostOf s (scaleOf p))) (keptOf p))
 

@@ -1,23 +1,19 @@
 -- Zones (01, "Zones"): the pairs, and what the first two steps and the last make of them.
-use mathlib.Core.Bool.{Bool, true, false, _&&_, _||_}
+use mathlib.Core.Bool.{Bool, true, false, cond, _&&_, _||_}
 use mathlib.Core.List.{List, [], _∷_, _++_, map}
 use Prim.Native.Nat.{ℕ, _+_, _-_}
 use lib.Dec.{eqb}
-use lib.IntN.{pos}
 use lib.ListN.{length, take, drop, set, replicate}
 use Rattle.fixed.specs.declared.Fixed.{Fixed}
-use Rattle.fixed.specs.Fixed.{fromBits, addF, subF, negF, absF, mulF, roundF, lessF, sameF, maxF, pickF}
+use Rattle.fixed.specs.Fixed.{ZERO, MAX, addF, subF, negF, absF, mulF, roundF, lessF, sameF, maxF}
 use Rattle.zones.specs.declared.blues.Blue.{Blue}
 use Rattle.zones.specs.declared.blues.Blues.{Blues}
 use Rattle.zones.specs.declared.blues.BlueZone.{BlueZone}
 use Rattle.zones.specs.declared.blues.Zones.{Zones}
 use Rattle.zones.specs.declared.blues.Nearest.{Nearest}
 
-abbrev pub none : Fixed
-none = fromBits (pos 0)
-
 abbrev pub noBlue : Blue
-noBlue = record { bottom = none; top = none }
+noBlue = record { bottom = ZERO; top = ZERO }
 
 -- the pairs of a list
 abbrev pub listOf : Blues → List Blue
@@ -42,18 +38,14 @@ zoneOf bottom b =
       «is_bottom» = bottom;
       «cs_bottom_edge» = b .bottom;
       «cs_top_edge» = b .top;
-      «cs_flat_edge» = pickF bottom (b .top) (b .bottom);
-      «ds_flat_edge» = none;
+      «cs_flat_edge» = cond bottom (b .top) (b .bottom);
+      «ds_flat_edge» = ZERO;
     }
-
-abbrev pub consBy : Bool → Blue → List Blue → List Blue
-consBy true b bs = bs
-consBy false b bs = b ∷ bs
 
 -- the pairs whose height is not negative
 unfoldable pub sift : List Blue → List Blue
 sift [] = []
-sift (b ∷ bs) = consBy (lessF (heightOf b) none) b (sift bs)
+sift (b ∷ bs) = cond (lessF (heightOf b) ZERO) (sift bs) (b ∷ sift bs)
 
 -- of the blues the first is a bottom zone, the later ones top zones
 unfoldable pub bluesZones : List Blue → List BlueZone
@@ -72,7 +64,7 @@ greatestFrom g (z ∷ zs) = greatestFrom (maxF g (subF (z .«cs_top_edge») (z .
 -- ---- step 2: the family
 -- the edges that a family's pairs have for bottom zones (true), and for top zones, which pass over the first pair
 abbrev pub familyEdge : Bool → Blue → Fixed
-familyEdge bottom b = pickF bottom (b .top) (b .bottom)
+familyEdge bottom b = cond bottom (b .top) (b .bottom)
 
 abbrev pub familyFrom : Bool → ℕ
 familyFrom true = 0
@@ -84,29 +76,27 @@ familyEdges bottom bs = map (familyEdge bottom) (drop (familyFrom bottom) (listO
 abbrev pub distance : Fixed → Fixed → Fixed
 distance flat edge = absF (subF flat edge)
 
-abbrev pub nearerBy : Bool → Nearest → Fixed → Fixed → Nearest
-nearerBy true n edge d = record { edge = edge; diff = d }
-nearerBy false n edge d = n
-
--- an edge takes the place of the nearest so far where it is nearer, and less than the limit away
+-- the nearest so far, or another edge where that is nearer and less than the limit, 1.0/scale, away
 unfoldable pub nearer : Fixed → Fixed → Nearest → Fixed → Nearest
 nearer flat limit n edge =
-    nearerBy (lessF (distance flat edge) (n .diff) && lessF (distance flat edge) limit) n edge (distance flat edge)
+    cond (lessF (distance flat edge) (n .diff) && lessF (distance flat edge) limit) (record { edge = edge; diff = distance flat edge }) n
 
--- the search along some edges, which a distance of 0 ends
-abbrev pub endedBy : Bool → Fixed → Fixed → Fixed
-endedBy true found more = found
-endedBy false found more = more
+-- the search along some edges: of two that are as near the earlier stays, and a distance of 0 ends it
+unfoldable pub nearestFrom : Fixed → Fixed → Nearest → List Fixed → Nearest
+nearestFrom flat limit n [] = n
+nearestFrom flat limit n (x ∷ xs) = cond (sameF (n .diff) ZERO) n (nearestFrom flat limit (nearer flat limit n x) xs)
 
-unfoldable pub nearestFrom : Fixed → Fixed → Nearest → List Fixed → Fixed
-nearestFrom flat limit n [] = n .edge
-nearestFrom flat limit n (x ∷ xs) = endedBy (sameF (n .diff) none) (n .edge) (nearestFrom flat limit (nearer flat limit n x) xs)
-
+-- before it, a flat edge's own
 abbrev pub unmoved : Fixed → Nearest
-unmoved flat = record { edge = flat; diff = fromBits (pos 2147483647) }
+unmoved flat = record { edge = flat; diff = MAX }
 
-unfoldable pub nearestOf : Bool → Blues → Fixed → Fixed → Fixed
+unfoldable pub nearestOf : Bool → Blues → Fixed → Fixed → Nearest
 nearestOf bottom bs flat limit = nearestFrom flat limit (unmoved flat) (familyEdges bottom bs)
+
+-- a bottom zone looks at the family's other blues, a top zone at its blues
+abbrev pub familyNearest : Bool → Blues → Blues → Fixed → Fixed → Nearest
+familyNearest true others blues flat limit = nearestOf true others flat limit
+familyNearest false others blues flat limit = nearestOf false blues flat limit
 
 abbrev pub withFlat : BlueZone → Fixed → BlueZone
 withFlat z flat =
@@ -118,13 +108,9 @@ withFlat z flat =
       «ds_flat_edge» = z .«ds_flat_edge»;
     }
 
-abbrev pub movedBy : Bool → Blues → Blues → Fixed → BlueZone → BlueZone
-movedBy true others blues limit z = withFlat z (nearestOf true others (z .«cs_flat_edge») limit)
-movedBy false others blues limit z = withFlat z (nearestOf false blues (z .«cs_flat_edge») limit)
-
--- a bottom zone goes by the family's other blues, a top zone by its blues
+-- the flat edge moves to the nearest of those
 unfoldable pub movedFlat : Blues → Blues → Fixed → BlueZone → BlueZone
-movedFlat others blues limit z = movedBy (z .«is_bottom») others blues limit z
+movedFlat others blues limit z = withFlat z (familyNearest (z .«is_bottom») others blues (z .«cs_flat_edge») limit .edge)
 
 -- ---- step 5: the flat edge on the device
 abbrev pub withDeviceFlat : BlueZone → Fixed → BlueZone
@@ -139,7 +125,7 @@ withDeviceFlat z d =
 
 -- round(flat·scale + boost), with the boost negated for bottom zones
 unfoldable pub deviceFlat : Fixed → Fixed → BlueZone → BlueZone
-deviceFlat s boost z = withDeviceFlat z (roundF (addF (mulF (z .«cs_flat_edge») s) (pickF (z .«is_bottom») (negF boost) boost)))
+deviceFlat s boost z = withDeviceFlat z (roundF (addF (mulF (z .«cs_flat_edge») s) (cond (z .«is_bottom») (negF boost) boost)))
 
 -- ---- zones held by value
 abbrev pub noZone : BlueZone
@@ -150,7 +136,7 @@ abbrev pub filled : List BlueZone → List BlueZone
 filled zs = zs ++ replicate (12 - length zs) noZone
 
 abbrev pub packed : List BlueZone → Zones
-packed zs = record { list = filled zs; count = length zs; greatest = greatestFrom none zs }
+packed zs = record { list = filled zs; count = length zs; greatest = greatestFrom ZERO zs }
 
 abbrev pub noZones : Zones
 noZones = packed []
@@ -158,13 +144,9 @@ noZones = packed []
 abbrev pub pushed : Zones → BlueZone → Fixed → Zones
 pushed q z h = record { list = set (q .list) (q .count) z; count = q .count + 1; greatest = maxF (q .greatest) h }
 
-abbrev pub keptBy : Bool → Bool → Zones → Blue → Zones
-keptBy true bottom q b = q
-keptBy false bottom q b = pushed q (zoneOf bottom b) (heightOf b)
-
 -- one pair read: of the other blues (true) or of the blues
 unfoldable pub keptIn : Bool → Zones → Blue → Zones
-keptIn other q b = keptBy (lessF (heightOf b) none) (other || eqb (q .count) 0) q b
+keptIn other q b = cond (lessF (heightOf b) ZERO) q (pushed q (zoneOf (other || eqb (q .count) 0) b) (heightOf b))
 
 unfoldable pub readIn : Bool → Zones → List Blue → Zones
 readIn other q [] = q

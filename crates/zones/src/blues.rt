@@ -113,11 +113,13 @@ impl BlueZone {
         let mut zone = self;
         if self.is_bottom {
             let near = others.nearest(flat, limit, true);
-            zone.cs_flat_edge = near;
+            let edge = near.edge;
+            zone.cs_flat_edge = edge;
             return zone;
         }
         let near = blues.nearest(flat, limit, false);
-        zone.cs_flat_edge = near;
+        let edge = near.edge;
+        zone.cs_flat_edge = edge;
         zone
     }
 
@@ -243,8 +245,8 @@ impl Blues {
         pair.bottom
     }
 
-    // From `build_zones`: the family edge nearest to a flat edge, or that flat edge. For top zones the first pair is passed over.
-    pub(crate) fn nearest(self, flat: Fixed, limit: Fixed, bottom: bool) -> Fixed
+    // From `build_zones`: the family edge nearest to a flat edge, or that flat edge, and how far it is. For top zones the first pair is passed over.
+    pub(crate) fn nearest(self, flat: Fixed, limit: Fixed, bottom: bool) -> Nearest
         requires { ⌜ self .count ≤ 7 ⌝ }
         ensures { λ r. ⌜ r ≡ nearestOf bottom self flat limit ⌝ }
     {
@@ -256,12 +258,12 @@ impl Blues {
         let mut i = first_for(bottom);
         while i < count {
             if near.diff.same(Fixed::ZERO) {
-                return near.edge;
+                return near;
             }
             near = near.with(flat, limit, self.edge(i, bottom));
             i += 1;
         }
-        near.edge
+        near
     }
 }
 

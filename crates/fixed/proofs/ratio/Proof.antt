@@ -4,7 +4,6 @@ use mathlib.Core.Path.{_≡_, _∙_}
 use lib.IntN.{_*ℤ_}
 use mir.Syntax.{w32, w64}
 use mir.Facts.{toZ-ofZ}
-use Rattle.fixed.specs.Whole.{ratioOf}
 use Rattle.fixed.proofs.Bits.{read}
 use Rattle.fixed.proofs.Nearest.{mul-bound}
 use Rattle.fixed.proofs.ratio.Statement.{statement}
@@ -26,7 +25,6 @@ wrap-requires : tie.Need-wrap-requires
 wrap-requires c κs = search needs
 
 returns : tie.Need-returns
-unfolding ratioOf
 returns c =
     let product = c .before .before .product in
     let near = c .before .nearest-div in

@@ -4,8 +4,7 @@ use mathlib.Core.Path.{ap, _∙_}
 use mir.Syntax.{w32}
 use mir.Val.{SFits}
 use mir.Facts.{toZ-ofZ}
-use Rattle.fixed.specs.Whole.{wrap32}
-use Rattle.fixed.specs.Fixed.{fromBits, absF, negF}
+use Rattle.fixed.specs.Fixed.{fromBits, wrapF, absF, negF}
 use Rattle.fixed.proofs.Nearest.{abs-below, abs-above}
 use Rattle.fixed.proofs.Fixed.abs.Statement.{statement}
 use Rattle.fixed.proofs.Fixed.abs.Tie as tie
@@ -21,7 +20,7 @@ returns : tie.Need-returns
 unfolding absF negF
 returns c =
     let s = c .before .before .before .before in
-    c .neg .ensures ∙ ap (λ z. fromBits (wrap32 z)) (abs-below (s .args .self .bits) (rw (toZ-ofZ (fs s)) at (c .before .if1 .taken)))
+    c .neg .ensures ∙ ap wrapF (abs-below (s .args .self .bits) (rw (toZ-ofZ (fs s)) at (c .before .if1 .taken)))
 
 returns-2 : tie.Need-returns-2
 unfolding absF

@@ -8,7 +8,7 @@ use mir.Syntax.{w32}
 use mir.Val.{SFits, ofZ}
 use mir.Facts.{toZ-ofZ}
 use Rattle.fixed.specs.Whole.{lowBits, wrap32}
-use Rattle.fixed.specs.Fixed.{fromBits, negF, divF}
+use Rattle.fixed.specs.Fixed.{fromBits, wrapF, negF, divF}
 use Rattle.fixed.proofs.Bits.{read}
 use Rattle.fixed.proofs.Nearest.{size-below, size-above, over-zero, over-zero-below, over-zero-above, over-below, over-above}
 use Rattle.fixed.proofs.Fixed.div.Statement.{statement}
@@ -49,18 +49,18 @@ neg-requires : tie.Need-neg-requires
 neg-requires c κs = search needs
 
 returns : tie.Need-returns
-unfolding divF negF wrap32 lowBits
+unfolding divF negF
 returns c =
     let s = c .before .before .before .before .before .before .before in
     let zero : ofZ w32 (s .args .b .bits) ≡ 0 = search needs in
-    c .neg .ensures ∙ ap fromBits (over-zero-below _ (rw (toZ-ofZ (fs s)) at (c .before .if2 .taken)) ∙ over-zero _ _ (fb s) zero)
+    c .neg .ensures ∙ ap wrapF (over-zero-below _ (rw (toZ-ofZ (fs s)) at (c .before .if2 .taken)) ∙ over-zero _ _ (fb s) zero)
 
 returns-2 : tie.Need-returns-2
-unfolding divF
+unfolding divF wrap32 lowBits
 returns-2 c =
     let s = c .before .before .before .before .before .before in
     let zero : ofZ w32 (s .args .b .bits) ≡ 0 = search needs in
-    ap fromBits (over-zero-above _ (rw (toZ-ofZ (fs s)) at (c .if2 .left)) ∙ over-zero _ _ (fb s) zero)
+    ap wrapF (over-zero-above _ (rw (toZ-ofZ (fs s)) at (c .if2 .left)) ∙ over-zero _ _ (fb s) zero)
 
 size-requires : tie.Need-size-requires
 size-requires c κs = search needs
@@ -72,7 +72,7 @@ returns-3 : tie.Need-returns-3
 unfolding divF
 returns-3 c =
     let size = c .before .before in
-    ap fromBits (read w32 (c .ratio .result) (c .ratio .ok) ∙ c .ratio .ensures ∙ rw (toZ-ofZ (fs (begin size)), divisor size) (over-below _ _ (below size)))
+    ap fromBits (read w32 (c .ratio .result) (c .ratio .ok) ∙ c .ratio .ensures ∙ rw (toZ-ofZ (fs (begin size)), divisor size) (ap wrap32 (over-below _ _ (below size))))
 
 size-requires-2 : tie.Need-size-requires-2
 size-requires-2 c κs = search needs
@@ -84,7 +84,7 @@ returns-4 : tie.Need-returns-4
 unfolding divF
 returns-4 c =
     let size = c .before .before in
-    ap fromBits (read w32 (c .ratio2 .result) (c .ratio2 .ok) ∙ c .ratio2 .ensures ∙ rw (toZ-ofZ (fs (begin-2 size)), divisor-2 size) (over-above _ _ (nonzero size) (above size)))
+    ap fromBits (read w32 (c .ratio2 .result) (c .ratio2 .ok) ∙ c .ratio2 .ensures ∙ rw (toZ-ofZ (fs (begin-2 size)), divisor-2 size) (ap wrap32 (over-above _ _ (nonzero size) (above size))))
 
 pub div-spec : {M : Type 1} → statement M
 div-spec =

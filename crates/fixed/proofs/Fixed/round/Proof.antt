@@ -3,7 +3,7 @@ use borrow.Author.Needs.{needs}
 use mathlib.Core.Path.{refl, ap, _∙_}
 use mir.Syntax.{w32}
 use mir.Val.{SFits}
-use Rattle.fixed.specs.Fixed.{fromBits, roundF, addF}
+use Rattle.fixed.specs.Fixed.{fromBits, roundF}
 use Rattle.fixed.proofs.Bits.{cleared}
 use Rattle.fixed.proofs.Fixed.round.Statement.{statement}
 use Rattle.fixed.proofs.Fixed.round.Tie as tie
@@ -12,7 +12,7 @@ add-requires : tie.Need-add-requires
 add-requires c κs = search needs
 
 returns : tie.Need-returns
-unfolding roundF addF
+unfolding roundF
 returns c =
     let f : SFits w32 (c .before .before .add .result .bits) = search needs in
     ap fromBits (cleared 15 16 refl _ f ∙ rw (c .before .before .add .ensures))

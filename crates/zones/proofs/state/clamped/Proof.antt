@@ -2,13 +2,13 @@
 use borrow.Author.Needs.{needs}
 use borrow.Author.Tests.{not-true, not-false}
 use mathlib.Core.Path.{_≡_, sym, _∙_}
-use Rattle.fixed.specs.Fixed.{lessF, divF}
-use Rattle.zones.specs.State.{one, clampedScale}
+use Rattle.fixed.specs.Fixed.{ONE, lessF, divF}
+use Rattle.zones.specs.State.{clampedScale}
 use Rattle.zones.proofs.state.clamped.Statement.{statement}
 use Rattle.zones.proofs.state.clamped.Tie as tie
 
 -- what the second test says
-tested : (c : tie.After-less2) → lessF (divF one (c .before .before .before .before .args .greatest)) (c .before .before .before .before .args .blue-scale) ≡ c .less2 .result
+tested : (c : tie.After-less2) → lessF (divF ONE (c .before .before .before .before .args .greatest)) (c .before .before .before .before .args .blue-scale) ≡ c .less2 .result
 tested c = sym (c .less2 .ensures ∙ rw (c .before .div .ensures))
 
 less-requires : tie.Need-less-requires

@@ -2,10 +2,9 @@
 use borrow.Author.Needs.{needs}
 use borrow.Author.Tests.{not-true, not-false}
 use mathlib.Core.Path.{_≡_, refl, sym, _∙_}
-use mathlib.Core.Bool.{Bool, true, false, _&&_}
+use mathlib.Core.Bool.{Bool, true, false, cond, _&&_}
 use Prim.Native.Nat.{ℕ}
 use Rattle.fixed.specs.declared.Fixed.{Fixed}
-use Rattle.fixed.specs.Fixed.{pickF}
 use Rattle.stems.specs.declared.edge.Hint.{Hint}
 use Rattle.stems.specs.declared.edge.Shape.{Shape}
 use Rattle.stems.specs.declared.edge.StemHint.{StemHint}
@@ -19,7 +18,7 @@ module _ (st : StemHint) (i : ℕ) (s : Fixed) (b : Bool) (h : Shape) (e : Hint)
   unfolding setupOf
   by-use u v x y = cc
 
-  by-side : (t : Bool) → st .«is_used» ≡ true → isValid e ≡ true → isTop e ≡ t → setupOf st i s b ≡ lockedAt e (pickF t (st .«ds_max») (st .«ds_min»))
+  by-side : (t : Bool) → st .«is_used» ≡ true → isValid e ≡ true → isTop e ≡ t → setupOf st i s b ≡ lockedAt e (cond t (st .«ds_max») (st .«ds_min»))
   by-side t x y z = by-use true true x y ∙ rw z
 
 shape-requires : tie.Need-shape-requires
@@ -50,7 +49,7 @@ start c = c .before .before .before .before .before .before .before
 -- what is asked for, where the stem is used and the edge is valid
 used : (c : tie.After-is-top) (t : Bool) → c .is-top .result ≡ t →
     setupOf ((start c) .args .stem) ((start c) .args .index) ((start c) .args .scale) ((start c) .args .bottom) ≡
-    lockedAt (c .before .before .before .before .before .edge .result) (pickF t ((start c) .args .stem .«ds_max») ((start c) .args .stem .«ds_min»))
+    lockedAt (c .before .before .before .before .before .edge .result) (cond t ((start c) .args .stem .«ds_max») ((start c) .args .stem .«ds_min»))
 used c t x =
     by-side _ _ _ _ _ _ (c .before .before .before .before .before .before .shape .ensures) (c .before .before .before .before .before .edge .ensures) t
     (not-false _ (c .before .before .before .if1 .left))

@@ -1,13 +1,16 @@
 -- `StemHint::shape` meets its contract: each answer by the tests of the width that led to it. Assumes nothing.
 use borrow.Author.Needs.{needs}
 use mathlib.Core.Path.{_≡_}
-use mathlib.Core.Bool.{false}
-use Rattle.stems.specs.Edge.{shapeBy, shapeOf}
+use mathlib.Core.Bool.{cond}
+use Rattle.stems.specs.declared.edge.Shape.the-variants.{Pair}
+use Rattle.stems.specs.Edge.{shapeOf}
 use Rattle.stems.proofs.edge.StemHint.shape.Statement.{statement}
 use Rattle.stems.proofs.edge.StemHint.shape.Tie as tie
 
 -- the shape of a stem that is no ghost
-no-ghost : (c : tie.After-less) → shapeOf (c .before .before .before .before .before .before .before .before .args .self) ≡ shapeBy false false (c .less .result) (c .before .before .before .before .before .before .before .before .args .self)
+no-ghost : (c : tie.After-less) →
+    let s = c .before .before .before .before .before .before .before .before .args .self in
+    shapeOf s ≡ cond (c .less .result) (Pair (s .max) (s .min)) (Pair (s .min) (s .max))
 unfolding shapeOf
 no-ghost c =
     rw (← c .before .before .before .before .before .sub .ensures, ← c .before .before .before .before .same .ensures, c .before .before .before .if1 .left)

@@ -9,14 +9,14 @@ nearest-requires c κs = search needs
 
 returns : tie.Need-returns
 unfolding movedFlat
-returns c = rw (c .before .if1 .taken, c .nearest .ensures)
+returns c = rw (c .before .before .if1 .taken, c .before .nearest .ensures)
 
 nearest-requires-2 : tie.Need-nearest-requires-2
 nearest-requires-2 c κs = search needs
 
 returns-2 : tie.Need-returns-2
 unfolding movedFlat
-returns-2 c = rw (c .before .if1 .left, c .nearest2 .ensures)
+returns-2 c = rw (c .before .before .if1 .left, c .before .nearest2 .ensures)
 
 pub by-family-spec : {M : Type 1} → statement M
 by-family-spec = tie.close (tie.spec nearest-requires returns nearest-requires-2 returns-2)

@@ -32,9 +32,9 @@ same-requires c κs = search needs
 
 returns : tie.Need-returns Inv-loop μ-loop
 returns c =
-    let at = c .before .before .before .before in
-    let test = sym (c .before .before .same .ensures) ∙ c .before .if1 .taken in
-    sym (search-found (at .before .before .args .bottom) _ (room (at .before .before)) _ _ _ _ (c .before .before .before .loop-test .taken) test) ∙ at .loop .inv
+    let at = c .before .before .before in
+    let test = sym (c .before .same .ensures) ∙ c .if1 .taken in
+    sym (search-found (at .before .before .args .bottom) _ (room (at .before .before)) _ _ _ _ (c .before .before .loop-test .taken) test) ∙ at .loop .inv
 
 edge-requires : tie.Need-edge-requires Inv-loop μ-loop
 edge-requires c κs = search needs
@@ -57,8 +57,8 @@ loop-again c =
 
 returns-2 : tie.Need-returns-2 Inv-loop μ-loop
 returns-2 c =
-    let at = c .before .before in
-    sym (search-ends (at .before .before .args .bottom) _ (room (at .before .before)) _ _ _ _ (c .before .loop-test .left)) ∙ at .loop .inv
+    let at = c .before in
+    sym (search-ends (at .before .before .args .bottom) _ (room (at .before .before)) _ _ _ _ (c .loop-test .left)) ∙ at .loop .inv
 
 pub nearest-spec : {M : Type 1} → statement M
 nearest-spec =

@@ -1,13 +1,13 @@
 -- `Zones::keep` meets its contract, by the test of the height. Assumes nothing.
 use borrow.Author.Needs.{needs}
 use mathlib.Core.Path.{_≡_, sym, _∙_}
-use Rattle.fixed.specs.Fixed.{lessF}
-use Rattle.zones.specs.Zones.{none, heightOf, keptIn}
+use Rattle.fixed.specs.Fixed.{ZERO, lessF}
+use Rattle.zones.specs.Zones.{heightOf, keptIn}
 use Rattle.zones.proofs.blues.Zones.keep.Statement.{statement}
 use Rattle.zones.proofs.blues.Zones.keep.Tie as tie
 
 -- what the test says
-tested : (c : tie.After-less) → lessF (heightOf (c .before .before .args .pair)) none ≡ c .less .result
+tested : (c : tie.After-less) → lessF (heightOf (c .before .before .args .pair)) ZERO ≡ c .less .result
 tested c = sym (c .less .ensures ∙ rw (c .before .height .ensures))
 
 height-requires : tie.Need-height-requires

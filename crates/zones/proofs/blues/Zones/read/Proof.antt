@@ -1,10 +1,9 @@
 -- `Zones::read` meets its contract. The loop's invariant: what is still to be read, read into the zones so far, gives what all gives read into the first; and no more zones are kept than pairs read.
 -- The measure is what is left of n. Assumes nothing.
 use mathlib.Core.Path.{_≡_, refl, sym, _∙_}
-use Prim.Native.Nat.{_+_, _-_, _≤_, _<_}
+use Prim.Native.Nat.{_+_, _-_, _≤_}
 use native.Mathlib.Omega.{arith}
 use lib.ListN.{length, take, drop, getD, length-map}
-use lib.Seq.{length-take-le, getD-take}
 use borrow.Author.Needs.{needs}
 use Rattle.zones.specs.Zones.{noBlue, readIn}
 use Rattle.zones.proofs.Keep.{kept-count, read-more, read-ends}
@@ -18,8 +17,8 @@ Inv-loop n other blues zones₀ i₀ zones i =
 abbrev μ-loop : tie.MeasureT-loop
 μ-loop n other blues zones₀ i₀ zones i = n - i
 
-whole : (s : tie.Start Inv-loop μ-loop) → length (take (s .args .n) (s .args .t2 .pairs)) ≡ s .args .n
-whole s = length-take-le _ _ (omega (arith, simp length-map at (s .good .1 .0 .1 .1 .0 .1 .0 .1)))
+room : (s : tie.Start Inv-loop μ-loop) → s .args .n ≤ length (s .args .t2 .pairs)
+room s = omega (arith, simp length-map at (s .good .1 .0 .1 .1 .0 .1 .0 .1))
 
 loop-holds : tie.Need-loop-holds Inv-loop μ-loop
 loop-holds c = (refl, (search needs, search needs))
@@ -43,14 +42,13 @@ loop-again : tie.Need-loop-again Inv-loop μ-loop
 loop-again c =
     let at = c .before .before .before in
     let z = at .loop .zones in
-    let h : at .loop .i < length (take (at .before .args .n) (at .before .args .t2 .pairs)) = rw (whole (at .before)) (search needs) in
     let one = kept-count (at .before .args .other) z (getD (at .before .args .t2 .pairs) (at .loop .i) noBlue) in
-    rw (c .keep .ensures) (at .loop .inv .0 ∙ read-more _ z _ (at .loop .i) h ∙ rw (getD-take (at .before .args .n) (at .before .args .t2 .pairs) (at .loop .i) noBlue (search needs)), (search needs, omega arith))
+    rw (c .keep .ensures) (at .loop .inv .0 ∙ read-more _ z _ _ (room (at .before)) (at .loop .i) (search needs), (search needs, omega arith))
 
 returns : tie.Need-returns Inv-loop μ-loop
 returns c =
     let at = c .before in
-    sym (at .loop .inv .0 ∙ read-ends _ _ _ (at .loop .i) (rw (whole (at .before)) (search needs)))
+    sym (at .loop .inv .0 ∙ read-ends _ _ _ _ (room (at .before)) (at .loop .i) (search needs))
 
 pub read-spec : {M : Type 1} → statement M
 read-spec =

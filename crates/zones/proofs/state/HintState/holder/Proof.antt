@@ -1,12 +1,13 @@
 -- `HintState::holder` meets its contract. The loop's invariant: the first zone from `i` on that holds is the first of all.
 -- The measure is what is left of the count. Assumes nothing.
 use mathlib.Core.Path.{_≡_, refl, sym, _∙_}
+use mathlib.Core.Bool.{cond}
 use Prim.Native.Nat.{_+_, _-_, _≤_}
 use native.Mathlib.Omega.{arith}
 use borrow.Author.Needs.{needs}
 use lib.ListN.{length, getD, length-map}
 use Rattle.zones.specs.Zones.{noZone}
-use Rattle.zones.specs.Capture.{firstBy}
+use Rattle.zones.specs.declared.capture.Held.the-variants.{By}
 use Rattle.zones.proofs.Holding.{holderFrom, holder-at, holder-ends}
 use Rattle.zones.proofs.state.HintState.holder.Statement.{statement}
 use Rattle.zones.proofs.state.HintState.holder.Tie as tie
@@ -36,7 +37,7 @@ holds-requires c κs = search needs
 tested : (c : tie.After-holds Inv-loop μ-loop) →
     let at = c .before .before .before in
     let a = at .before .before .args in
-    holderFrom (a .t1) (a .bottom) (a .top) 0 ≡ firstBy (c .holds .result) (getD (a .t1 .zones) (at .loop .i) noZone) (holderFrom (a .t1) (a .bottom) (a .top) (at .loop .i + 1))
+    holderFrom (a .t1) (a .bottom) (a .top) 0 ≡ cond (c .holds .result) (By (getD (a .t1 .zones) (at .loop .i) noZone)) (holderFrom (a .t1) (a .bottom) (a .top) (at .loop .i + 1))
 tested c =
     let at = c .before .before .before in
     let s = at .before .before in
