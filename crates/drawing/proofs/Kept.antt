@@ -7,7 +7,7 @@ use lib.Dec.{leb}
 use lib.IntN.{ℤ, pos}
 use borrow.Author.Tests.{leb-true}
 use Rattle.fixed.specs.declared.Fixed.{Fixed}
-use Rattle.fixed.specs.Fixed.{fromBits, lessF}
+use Rattle.fixed.specs.Fixed.{fromBits, ONE, lessF}
 use Rattle.zones.specs.declared.state.HintParams.{HintParams}
 use Rattle.zones.specs.declared.state.HintState.{HintState}
 use Rattle.zones.specs.State.{Counted, stateOf}
@@ -36,7 +36,7 @@ pub kept-open : (p : HintParams) (s : Fixed) → Kept (openOf p s .state) (openO
 unfolding openOf
 kept-open p s = go (lessF s (fromBits (pos 1))) (countsFit p) refl
   where
-    refused : Kept refusedState (newHints (fromBits (pos 65536)))
+    refused : Kept refusedState (newHints ONE)
     refused = kept-new refusedState _ (omega arith)
 
     go : (small fit : Bool) → countsFit p ≡ fit → Kept (openBy small fit p s .state) (openBy small fit p s .drawing .hints)

@@ -4,7 +4,7 @@ use lib.Dec.{leb}
 use lib.IntN.{pos}
 use lib.ListN.{replicate}
 use Rattle.fixed.specs.declared.Fixed.{Fixed}
-use Rattle.fixed.specs.Fixed.{fromBits, lessF}
+use Rattle.fixed.specs.Fixed.{fromBits, ZERO, ONE, lessF}
 use Rattle.zones.specs.declared.state.HintParams.{HintParams}
 use Rattle.zones.specs.declared.state.HintState.{HintState}
 use Rattle.zones.specs.Zones.{noZone}
@@ -14,7 +14,7 @@ use Rattle.drawing.specs.declared.calls.Drawing.{Drawing}
 use Rattle.drawing.specs.declared.opening.Opening.{Opening}
 use Rattle.drawing.specs.declared.opening.Opening.the-variants.{Ok, BadScale, BadBlues}
 use Rattle.drawing.specs.declared.opening.Opened.{Opened}
-use Rattle.hints.specs.Hints.{none, newHints}
+use Rattle.hints.specs.Hints.{newHints}
 
 abbrev pub newDrawing : Fixed → Drawing
 newDrawing s = record { hints = newHints s; pen = newPen }
@@ -28,19 +28,19 @@ countsFit p =
 abbrev pub refusedState : HintState
 refusedState =
     record {
-      scale = fromBits (pos 65536);
-      «blue_scale» = none;
-      «blue_shift» = none;
-      «blue_fuzz» = none;
+      scale = ONE;
+      «blue_scale» = ZERO;
+      «blue_shift» = ZERO;
+      «blue_fuzz» = ZERO;
       «suppress_overshoot» = false;
       «do_em_box_hints» = false;
-      boost = none;
+      boost = ZERO;
       zones = replicate 12 noZone;
       «zone_count» = 0;
     }
 
 abbrev pub refusedBy : Opening → Opened
-refusedBy a = record { answer = a; state = refusedState; drawing = newDrawing (fromBits (pos 65536)) }
+refusedBy a = record { answer = a; state = refusedState; drawing = newDrawing ONE }
 
 -- the scale is refused first, then the counts
 abbrev pub openBy : Bool → Bool → HintParams → Fixed → Opened

@@ -2,10 +2,9 @@
 use mathlib.Core.Bool.{Bool, true, false, _&&_, not}
 use Prim.Native.Nat.{_+_, _≤_}
 use lib.Dec.{ltb}
-use lib.IntN.{pos}
 use lib.ListN.{set, replicate}
 use Rattle.fixed.specs.declared.Fixed.{Fixed}
-use Rattle.fixed.specs.Fixed.{fromBits, mulF, truncF}
+use Rattle.fixed.specs.Fixed.{ZERO, mulF, truncF}
 use Rattle.stems.specs.declared.mask.HintMask.{HintMask}
 use Rattle.stems.specs.declared.edge.StemHint.{StemHint}
 use Rattle.stems.specs.Mask.{allActive, sameMask}
@@ -25,17 +24,14 @@ pub record Kept (st : HintState) (h : Hints) : Type 0 where
   pub map : h .map .len ≤ 96
   pub zones : st .«zone_count» ≤ 12
 
-abbrev pub none : Fixed
-none = fromBits (pos 0)
-
 abbrev pub unusedStem : Fixed → Fixed → StemHint
-unusedStem min max = record { «is_used» = false; min = min; max = max; «ds_min» = none; «ds_max» = none }
+unusedStem min max = record { «is_used» = false; min = min; max = max; «ds_min» = ZERO; «ds_max» = ZERO }
 
 -- no stems, a mask of all, and two maps with no edges
 abbrev pub newHints : Fixed → Hints
 newHints s =
     record {
-      stems = record { list = replicate 96 (unusedStem none none); count = 0 };
+      stems = record { list = replicate 96 (unusedStem ZERO ZERO); count = 0 };
       mask = allActive;
       initial = newMap s;
       map = newMap s;

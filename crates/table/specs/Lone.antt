@@ -7,7 +7,7 @@ use lib.IntN.{ℤ, pos}
 use lib.ListN.{length}
 use lib.Signed.{_≤ℤ_, _<ℤ_}
 use Rattle.fixed.specs.declared.Fixed.{Fixed}
-use Rattle.fixed.specs.Fixed.{fromBits}
+use Rattle.fixed.specs.Fixed.{ONE}
 use Rattle.zones.specs.declared.state.HintParams.{HintParams}
 use Rattle.zones.specs.declared.state.HintState.{HintState}
 use Rattle.zones.specs.State.{stateOf}
@@ -53,7 +53,7 @@ openPlace o = 0
 -- scale 1.0, all else 0
 pub record Blank (p : HintParams) (s : Fixed) : Type 0 where
   pub state : openOf p s .state ≡ refusedState
-  pub drawing : openOf p s .drawing ≡ newDrawing (fromBits (pos 65536))
+  pub drawing : openOf p s .drawing ≡ newDrawing ONE
 
 -- the scale is refused first, then the counts, each with a new drawing of scale 1.0 beside it
 pub data OpenEnds (p : HintParams) (s : Fixed) : Type 0 where
