@@ -1,6 +1,6 @@
 -- What a turn keeps, and the first pass a turn at a time. Assumes nothing.
 use mathlib.Core.Path.{_≡_, refl, sym, _∙_}
-use mathlib.Core.Bool.{Bool, true, false, cond, _&&_}
+use mathlib.Core.Bool.{Bool, true, false, cond}
 use Prim.Native.Nat.{ℕ, zero, suc, _+_, _-_, _≤_, _<_}
 use native.Mathlib.Omega.{arith}
 use lib.Dec.{ltb}
@@ -10,36 +10,48 @@ use Rattle.stems.specs.Edge.{isPair}
 use Rattle.adjust.specs.declared.Note.{Note}
 use Rattle.adjust.specs.declared.Note.the-variants.{Settled, Missing}
 use Rattle.adjust.specs.declared.Notes.{Notes}
-use Rattle.adjust.specs.declared.Pass.{Pass}
-use Rattle.adjust.specs.Adjust.{edgeAt, decideOf}
-use Rattle.adjust.specs.Pass.{upperOf, notedOf, settleBy, settleOf, turnOf, passFrom}
-use Rattle.adjust.proofs.Keeps.{turn-kept}
+use Rattle.adjust.specs.Adjust.{edgeAt, besideBy, aboveOf, belowOf, settleOf}
+use Rattle.adjust.specs.Pass.{Pass, nextOf, upperBy, upperOf, notedOf, turnOf, passFrom}
 
 -- ---- the upper edge is the lower one or above it, and an edge of the map
-module _ (m : HintMap) (i : ℕ) where
-  upper-by : (a b : Bool) → ltb (i + 1) (m .len) ≡ b → i < m .len → (i ≤ cond (a && b) (i + 1) i) × (cond (a && b) (i + 1) i < m .len)
-  upper-by true true e l = (omega arith, ltb-true (i + 1) (m .len) e)
-  upper-by true false e l = (omega arith, l)
-  upper-by false b e l = (omega arith, l)
+module _ (len i : ℕ) where
+  -- so is the place after one
+  pub next-is : i < len → (i ≤ nextOf len i) × (nextOf len i < len)
+  unfolding nextOf
+  next-is l = go (ltb (i + 1) len) refl
+    where
+      go : (b : Bool) → ltb (i + 1) len ≡ b → (i ≤ cond b (i + 1) i) × (cond b (i + 1) i < len)
+      go true e = (omega arith, ltb-true (i + 1) len e)
+      go false e = (omega arith, l)
 
-  pub upper-is : i < m .len → (i ≤ upperOf m i) × (upperOf m i < m .len)
-  unfolding upperOf
-  upper-is l = upper-by (isPair (edgeAt m i)) (ltb (i + 1) (m .len)) refl l
+  pub upper-by : (pair : Bool) → i < len → (i ≤ upperBy pair len i) × (upperBy pair len i < len)
+  upper-by true l = next-is l
+  upper-by false l = (omega arith, l)
+
+pub upper-is : (m : HintMap) (i : ℕ) → i < m .len → (i ≤ upperOf m i) × (upperOf m i < m .len)
+unfolding upperOf
+upper-is m i l = upper-by (m .len) i (isPair (edgeAt m i)) l
+
+-- the edge at the place after is the edge above, where there is one
+pub above-next : (m : HintMap) (len j : ℕ) → m .len ≡ len → besideBy (ltb (j + 1) len) (edgeAt m (nextOf len j)) ≡ aboveOf m j
+unfolding nextOf
+above-next m len j l = rw l (go (ltb (j + 1) len))
+  where
+    go : (b : Bool) → besideBy b (edgeAt m (cond b (j + 1) j)) ≡ besideBy b (edgeAt m (j + 1))
+    go true = refl
+    go false = refl
 
 -- ---- a turn keeps the number of edges, and makes one note at most
-notes-by : (n : Notes) (j : ℕ) (t : Note) → notedOf n j t .count ≤ n .count + 1
+pub notes-by : (n : Notes) (j : ℕ) (t : Note) → notedOf n j t .count ≤ n .count + 1
 unfolding notedOf
 notes-by n j Settled = omega arith
 notes-by n j (Missing by) = omega arith
 
-module _ (i j : ℕ) (p : Pass) where
-  settle-by : (b : Bool) → settleBy b i j p .notes .count ≤ p .notes .count + 1
-  settle-by true = omega arith
-  settle-by false = notes-by (p .notes) j (decideOf (p .map) i j .note)
-
-  pub turn-keeps : (turnOf i j p .map .len ≡ p .map .len) × (turnOf i j p .notes .count ≤ p .notes .count + 1)
-  unfolding turnOf settleOf
-  turn-keeps = (turn-kept i j p .len, settle-by (edgeAt (p .map) i .locked))
+pub turn-keeps : (i j : ℕ) (p : Pass) → (turnOf i j p .map .len ≡ p .map .len) × (turnOf i j p .notes .count ≤ p .notes .count + 1)
+unfolding turnOf
+turn-keeps i j p =
+    let m = p .map in
+    (refl, notes-by (p .notes) j (settleOf (belowOf m i) (edgeAt m i) (edgeAt m j) (aboveOf m j) .note))
 
 -- ---- the pass
 -- past the last edge it ends

@@ -1,60 +1,53 @@
 -- The first pass of the adjustment, upward over the hints (01, "The map", Adjust).
-use mathlib.Core.Bool.{Bool, true, false, cond, _&&_}
-use Prim.Native.Nat.{ℕ, zero, suc, _+_}
+use mathlib.Core.Bool.{Bool, true, false, cond}
+use Prim.Native.Nat.{ℕ, zero, suc, _+_, _-_}
 use lib.ListN.{set}
 use lib.Dec.{ltb}
-use Rattle.fixed.specs.declared.Fixed.{Fixed}
+use Rattle.stems.specs.declared.edge.Hint.{Hint}
 use Rattle.hintmap.specs.declared.map.HintMap.{HintMap}
 use Rattle.stems.specs.Edge.{isPair}
 use Rattle.adjust.specs.declared.Note.{Note}
 use Rattle.adjust.specs.declared.Note.the-variants.{Settled, Missing}
-use Rattle.adjust.specs.declared.Decision.{Decision}
 use Rattle.adjust.specs.declared.Notes.{Notes}
-use Rattle.adjust.specs.declared.Pass.{Pass}
-use Rattle.adjust.specs.Adjust.{edgeAt, movedIn, rescaleOf, decideOf}
+use Rattle.adjust.specs.declared.Turned.{Turned}
+use Rattle.adjust.specs.Adjust.{edgeAt, aboveOf, belowOf, settleOf, rescaledHint, withEdge}
+
+-- the map and the notes, between two turns
+pub record Pass : Type 0 where
+  pub map : HintMap
+  pub notes : Notes
+
+-- the place after k, and after the last the last
+unfoldable pub nextOf : ℕ → ℕ → ℕ
+nextOf len k = cond (ltb (k + 1) len) (k + 1) k
 
 -- the upper edge of the hint whose lower edge is i: the next edge for a pair, and for a ghost the same. That a pair has a next edge is proofs/Guards.antt
+abbrev pub upperBy : Bool → ℕ → ℕ → ℕ
+upperBy pair len i = cond pair (nextOf len i) i
+
 unfoldable pub upperOf : HintMap → ℕ → ℕ
-upperOf m i = cond (isPair (edgeAt m i) && ltb (i + 1) (m .len)) (i + 1) i
+upperOf m i = upperBy (isPair (edgeAt m i)) (m .len) i
+
+-- the lower edge of the hint whose upper edge is j: the edge before for a pair. That a pair has one is proofs/Guards.antt
+abbrev pub lowerBy : Bool → ℕ → ℕ
+lowerBy pair j = cond pair (j - 1) j
 
 -- a hint noted with its missing move
 unfoldable pub notedOf : Notes → ℕ → Note → Notes
 notedOf n j Settled = n
 notedOf n j (Missing by) = record { at = set (n .at) (n .count) j; by = set (n .by) (n .count) by; count = n .count + 1 }
 
--- a hint has two edges or one
-abbrev pub bothBy : Bool → HintMap → HintMap → HintMap
-bothBy true both one = both
-bothBy false both one = one
+-- a hint put back. After each of its edges the edge before gets its scale: the edge below the hint, and in a pair the lower edge. Where there is none before, edge 0 and a ghost's one edge stand for it, and keep their scale: no height differs
+abbrev pub putBack : HintMap → ℕ → ℕ → Hint → Hint → HintMap
+putBack m i j low high = withEdge (withEdge (withEdge m (i - 1) (rescaledHint (edgeAt m (i - 1)) low)) i (rescaledHint low high)) j high
 
--- both edges of a hint moved alike
-unfoldable pub movedBoth : HintMap → ℕ → ℕ → Fixed → HintMap
-movedBoth m i j by = bothBy (ltb i j) (movedIn (movedIn m i by) j by) (movedIn m i by)
-
--- the scales of the edges before those of a hint
-unfoldable pub rescaleBoth : HintMap → ℕ → ℕ → HintMap
-rescaleBoth m i j = bothBy (ltb i j) (rescaleOf (rescaleOf m i) j) (rescaleOf m i)
-
--- a decision carried out
-abbrev pub applied : ℕ → ℕ → Pass → Decision → Pass
-applied i j p d = record { map = movedBoth (p .map) i j (d .by); notes = notedOf (p .notes) j (d .note) }
-
--- a locked hint stays where it is
-abbrev pub settleBy : Bool → ℕ → ℕ → Pass → Pass
-settleBy true i j p = p
-settleBy false i j p = applied i j p (decideOf (p .map) i j)
-
--- a hint is locked if its lower edge is
-unfoldable pub settleOf : ℕ → ℕ → Pass → Pass
-settleOf i j p = settleBy (edgeAt (p .map) i .locked) i j p
-
--- scales are set after locked hints too
-abbrev pub rescaled : ℕ → ℕ → Pass → Pass
-rescaled i j p = record { map = rescaleBoth (p .map) i j; notes = p .notes }
+-- locked hints are put back too, so that scales are set after them
+abbrev pub turnBy : ℕ → ℕ → Pass → Turned → Pass
+turnBy i j p t = record { map = putBack (p .map) i j (t .low) (t .high); notes = notedOf (p .notes) j (t .note) }
 
 -- one hint of the pass
 unfoldable pub turnOf : ℕ → ℕ → Pass → Pass
-turnOf i j p = rescaled i j (settleOf i j p)
+turnOf i j p = turnBy i j p (settleOf (belowOf (p .map) i) (edgeAt (p .map) i) (edgeAt (p .map) j) (aboveOf (p .map) j))
 
 -- the hints from edge i on, of which there are at most n
 unfoldable pub passFrom : ℕ → ℕ → Pass → Pass
