@@ -23,7 +23,7 @@ use Rattle.adjust.specs.declared.Note.{Note}
 use Rattle.adjust.specs.declared.Note.the-variants.{Settled, Missing}
 use Rattle.adjust.specs.declared.Notes.{Notes}
 use Rattle.adjust.specs.Adjust.{none, gap, edgeAt, besideBy, aboveOf, belowOf, roomUp, noteBy, noteOf, settleBy, settleOf}
-use Rattle.adjust.specs.Pass.{Pass, nextOf, upperOf, notedOf, turnOf, passFrom, firstPass}
+use Rattle.adjust.specs.Pass.{Pass, nextPlace, upperOf, notedOf, turnOf, passFrom, firstPass}
 use Rattle.adjust.specs.Second.{liftBoth, retryOf, secondPass, startOf, adjustOf}
 use Rattle.adjust.proofs.Keeps.{Kept, kept-at, kept-length, kept-alike, turn-kept, retry-kept}
 use Rattle.adjust.proofs.Turns.{upper-is, turn-keeps}
@@ -84,7 +84,7 @@ module _ (m : HintMap) (i : ℕ) (fits : m .len ≤ length (m .edges)) (inside :
       record { plain = e ∙ sym p; next = rw (e, add-one) r; above = λ t. absurd (false≢true (sym f ∙ (rw e at t))) }
 
   upper-pair : isPair (edgeAt m i) ≡ true → i + 1 < m .len → Stems (drop (suc (suc i)) (view m)) → Upper m i
-  unfolding upperOf nextOf
+  unfolding upperOf nextPlace
   upper-pair t l r =
       let e : upperOf m i ≡ i + 1 = rw (t, lt-ltb (i + 1) (m .len) l) in
       let p : plainUpper m i ≡ i + 1 = rw t in

@@ -15,7 +15,7 @@ use Rattle.adjust.specs.declared.Note.{Note}
 use Rattle.adjust.specs.declared.Note.the-variants.{Settled, Missing}
 use Rattle.adjust.specs.declared.Neighbour.{Neighbour}
 use Rattle.adjust.specs.declared.Neighbour.the-variants.{Absent, Edge}
-use Rattle.adjust.specs.declared.Turned.{Turned}
+use Rattle.adjust.specs.declared.Aligned.{Aligned}
 
 -- no move
 abbrev pub none : Fixed
@@ -89,20 +89,20 @@ unfoldable pub movedHint : Hint → Fixed → Hint
 movedHint e by = atDevice e (addF (e .«ds_coord») by)
 
 -- a hint whose move is chosen; the missing move is up less the move made
-abbrev pub movedBy : Hint → Hint → Neighbour → Moves → Choice → Turned
+abbrev pub movedBy : Hint → Hint → Neighbour → Moves → Choice → Aligned
 movedBy low high above v c = record { low = movedHint low (c .by); high = movedHint high (c .by); note = noteOf above (c .short) (subF (v .up) (c .by)) }
 
 -- the move is chosen by the room that there is
-abbrev pub chosenBy : Neighbour → Hint → Hint → Neighbour → Moves → Turned
+abbrev pub chosenBy : Neighbour → Hint → Hint → Neighbour → Moves → Aligned
 chosenBy below low high above v = movedBy low high above v (choiceOf (roomUp above (high .«ds_coord») (v .up)) (roomDown below (low .«ds_coord») (v .down)) v)
 
 -- a locked hint stays where it is
-abbrev pub settleBy : Bool → Neighbour → Hint → Hint → Neighbour → Turned
+abbrev pub settleBy : Bool → Neighbour → Hint → Hint → Neighbour → Aligned
 settleBy true below low high above = record { low = low; high = high; note = Settled }
 settleBy false below low high above = chosenBy below low high above (movesOf (low .«ds_coord») (high .«ds_coord»))
 
 -- what is done with a hint, from the edge below it to the edge above. It is locked if its lower edge is
-unfoldable pub settleOf : Neighbour → Hint → Hint → Neighbour → Turned
+unfoldable pub settleOf : Neighbour → Hint → Hint → Neighbour → Aligned
 settleOf below low high above = settleBy (low .locked) below low high above
 
 -- an edge with another scale

@@ -6,7 +6,7 @@ ghost use mathlib.Core.Path.{_≡_};
 ghost use Prim.Native.Nat.{_-_, _<_, _≤_};
 ghost use Rattle.stems.specs.Edge.{isPair};
 ghost use Rattle.adjust.specs.Adjust.{toNext, movesOf, besideBy, roomUp, roomDown, choiceOf, noteOf, movedHint, settleOf, rescaledHint};
-ghost use Rattle.adjust.specs.Pass.{nextOf, upperBy, lowerBy};
+ghost use Rattle.adjust.specs.Pass.{nextPlace, upperBy, lowerBy};
 ghost use Rattle.adjust.specs.Second.{secondPass, adjustOf};
 
 // The smallest move up and the smallest move down. A move down is not above 0.
@@ -34,7 +34,7 @@ pub enum Neighbour {
 }
 
 // The edges of a hint once it is moved, and what is noted of it.
-pub struct Turned {
+pub struct Aligned {
     pub low: Hint,
     pub high: Hint,
     pub note: Note,
@@ -157,11 +157,11 @@ fn moved(edge: Hint, by: Fixed) -> Hint
 }
 
 // From `adjust`: an unlocked hint is moved, and noted where it fell short.
-fn settle(below: Neighbour, low: Hint, high: Hint, above: Neighbour) -> Turned
+fn settle(below: Neighbour, low: Hint, high: Hint, above: Neighbour) -> Aligned
     ensures { λ r. ⌜ r ≡ settleOf below low high above ⌝ }
 {
     if low.is_locked() {
-        return Turned {
+        return Aligned {
             low,
             high,
             note: Note::Settled,
@@ -175,7 +175,7 @@ fn settle(below: Neighbour, low: Hint, high: Hint, above: Neighbour) -> Turned
     let note = noted(above, choice.short, missing);
     let low = moved(low, choice.by);
     let high = moved(high, choice.by);
-    Turned { low, high, note }
+    Aligned { low, high, note }
 }
 
 // From `adjust`: an edge with the scale of the line from it to the next.
@@ -203,7 +203,7 @@ fn previous(k: usize) -> usize
 
 fn next(k: usize, len: usize) -> usize
     requires { ⌜ k < 96 ⌝ }
-    ensures { λ r. ⌜ r ≡ nextOf len k ⌝ }
+    ensures { λ r. ⌜ r ≡ nextPlace len k ⌝ }
 {
     if k + 1 < len {
         return k + 1;
@@ -293,10 +293,10 @@ pub fn adjust(map: HintMap) -> HintMap
         let below = after.edges[b];
         let n = next(j, len);
         let above = after.edges[n];
-        let turned = settle(beside(0 < i, below), low, high, beside(j + 1 < len, above));
-        let bottom = turned.low;
-        let top = turned.high;
-        let note = turned.note;
+        let aligned = settle(beside(0 < i, below), low, high, beside(j + 1 < len, above));
+        let bottom = aligned.low;
+        let top = aligned.high;
+        let note = aligned.note;
         after.edges[b] = rescaled(below, bottom);
         after.edges[i] = rescaled(bottom, top);
         after.edges[j] = top;

@@ -2,7 +2,6 @@
 -- The measure is `k`. Assumes nothing.
 use borrow.Author.Needs.{needs}
 use mathlib.Core.Path.{_≡_, refl, sym, ap, _∙_}
-use mathlib.Core.Bool.{Bool, cond}
 use Prim.Native.Nat.{ℕ, _-_, _≤_, _<_}
 use native.Mathlib.Omega.{arith}
 use lib.ListN.{getD}
@@ -10,11 +9,10 @@ use borrow.Author.Tests.{not-true, not-false}
 use Rattle.fixed.specs.declared.Fixed.{Fixed}
 use Rattle.hintmap.specs.declared.map.HintMap.{HintMap}
 use Rattle.stems.specs.Edge.{isPair}
-use Rattle.adjust.specs.declared.Neighbour.{Neighbour}
-use Rattle.adjust.specs.Adjust.{none, edgeAt, aboveOf, roomUp, withEdge}
-use Rattle.adjust.specs.Second.{liftBoth, retryOf, secondPass}
-use Rattle.adjust.proofs.Turns.{next-is, above-next}
-use Rattle.adjust.proofs.Second.{second-step, second-ends, retry-len, retry-none, retry-by, lower-is}
+use Rattle.adjust.specs.Adjust.{none, edgeAt}
+use Rattle.adjust.specs.Second.{retryOf, secondPass}
+use Rattle.adjust.proofs.Turns.{next-is}
+use Rattle.adjust.proofs.Second.{second-step, second-ends, retry-len, retry-none, retry-stays, retry-moves, lower-is}
 use Rattle.adjust.proofs.second_pass.Statement.{statement}
 use Rattle.adjust.proofs.second_pass.Tie as tie
 
@@ -38,45 +36,23 @@ module _ (c : tie.In-loop Inv-loop μ-loop) where
       let at = c .before .loop in
       (at .inv .0 ∙ second-step (at .k) (c .before .before .args .t2) (at .after) (omega arith) ∙ ap (secondPass (at .k - 1) (c .before .before .args .t2)) e, (omega arith, (ap (λ (m : HintMap). m .len) (sym e) ∙ retry-len (at .after) edge move ∙ at .inv .1 .1 .0, at .inv .1 .1 .1)))
 
--- it is of an edge of the map
-module _ (c : tie.Else1 Inv-loop μ-loop) where
-  inside : (edge (c .before .before .before) < c .before .before .before .before .before .args .map .len) × (edge (c .before .before .before) < 96)
-  inside = (omega arith, omega arith)
+-- it is of an edge of the map, and so are the places beside it
+inside : (c : tie.Else1 Inv-loop μ-loop) → (edge (c .before .before .before) < c .before .before .before .before .before .args .map .len) × (edge (c .before .before .before) < 96)
+inside c = (omega arith, omega arith)
 
-  by-room : let i = c .before .before .before in let m = i .before .loop .after in
-      retryOf m (edge i) (move i) ≡ cond (roomUp (aboveOf m (edge i)) (edgeAt m (edge i) .«ds_coord») (move i)) (liftBoth m (edge i) (move i)) m
-  by-room =
-      let i = c .before .before .before in
-      retry-by (i .before .loop .after) (edge i) (move i) (omega arith)
-
-above-it : (c : tie.After-next Inv-loop μ-loop) → c .next .result < 96
-above-it c =
+above-at : (c : tie.After-next Inv-loop μ-loop) → c .next .result < 96
+above-at c =
     let h = inside (c .before .before) in
     let n = next-is _ _ (h .0) in
     let e = c .next .ensures in
     omega arith
 
-lower-edge : (c : tie.After-lower Inv-loop μ-loop) → c .lower .result < 96
-lower-edge c =
+lower-at : (c : tie.After-lower Inv-loop μ-loop) → c .lower .result < 96
+lower-at c =
     let u = c .before .before .before .before .before .before .before in
     let i = u .before .before .before in
     let l : c .lower .result ≤ edge i = rw (c .lower .ensures) (lower-is (isPair (edgeAt (i .before .loop .after) (edge i))) (edge i)) in
     omega (arith, inside u)
-
--- there is room for it, or not
-room : (c : tie.After-room-up Inv-loop μ-loop) → let i = c .before .before .before .before .before .before .before .before in let m = i .before .loop .after in
-    c .room-up .result ≡ roomUp (aboveOf m (edge i)) (edgeAt m (edge i) .«ds_coord») (move i)
-room c =
-    let i = c .before .before .before .before .before .before .before .before in
-    let m = i .before .loop .after in
-    rw (c .room-up .ensures, c .before .beside .ensures, c .before .before .before .next .ensures)
-    (ap (λ (x : Neighbour). roomUp x (edgeAt m (edge i) .«ds_coord») (move i)) (above-next m (i .before .before .args .map .len) (edge i) (i .before .loop .inv .1 .1 .0)))
-
--- with room it is moved
-lifted : (c : tie.After-moved2 Inv-loop μ-loop) → let r = c .before .before .before .before in let i = r .before .before .before .before .before .before .before .before .before in let m = i .before .loop .after in
-    liftBoth m (edge i) (move i) ≡ withEdge (withEdge m (c .before .before .before .lower .result) (c .before .moved .result)) (edge i) (c .moved2 .result)
-unfolding liftBoth
-lifted c = rw (c .moved2 .ensures, c .before .moved .ensures, c .before .before .before .lower .ensures)
 
 loop-holds : tie.Need-loop-holds Inv-loop μ-loop
 loop-holds c = (refl, (search needs, (refl, search needs)))
@@ -112,10 +88,10 @@ next-requires : tie.Need-next-requires Inv-loop μ-loop
 next-requires c κs = omega arith
 
 mul-above : tie.Need-mul-above Inv-loop μ-loop
-mul-above c = omega (arith, above-it c)
+mul-above c = omega (arith, above-at c)
 
 element-copy-out-above : tie.Need-element-copy-out-above Inv-loop μ-loop
-element-copy-out-above c = above-it c
+element-copy-out-above c = above-at c
 
 add-beside : tie.Need-add-beside Inv-loop μ-loop
 add-beside c = omega arith
@@ -131,28 +107,29 @@ loop-less-2 c = omega arith
 
 loop-again-2 : tie.Need-loop-again-2 Inv-loop μ-loop
 loop-again-2 c =
-    let u = c .before .before .before .before .before .before in
+    let r = c .before in
+    let n = r .before .before .before in
+    let u = n .before .before in
     let i = u .before .before .before in
-    let m = i .before .loop .after in
-    again i _ (by-room u ∙ ap (λ (b : Bool). cond b (liftBoth m (edge i) (move i)) m) (sym (room (c .before)) ∙ not-true (c .before .room-up .result) (c .if2 .taken)))
+    again i _ (retry-stays (i .before .loop .after) _ (edge i) (n .next .result) (move i) (r .before .beside .result) (r .room-up .result) (i .before .loop .inv .1 .1 .0) (inside u .0) (n .next .ensures) (r .before .beside .ensures) (r .room-up .ensures) (not-true (r .room-up .result) (c .if2 .taken)))
 
 lower-requires : tie.Need-lower-requires Inv-loop μ-loop
 lower-requires c κs = search needs
 
 mul-low : tie.Need-mul-low Inv-loop μ-loop
-mul-low c = omega (arith, lower-edge c)
+mul-low c = omega (arith, lower-at c)
 
 element-copy-out-low : tie.Need-element-copy-out-low Inv-loop μ-loop
-element-copy-out-low c = lower-edge c
+element-copy-out-low c = lower-at c
 
 moved-requires : tie.Need-moved-requires Inv-loop μ-loop
 moved-requires c κs = search needs
 
 mul-after : tie.Need-mul-after Inv-loop μ-loop
-mul-after c = omega (arith, lower-edge (c .before .before))
+mul-after c = omega (arith, lower-at (c .before .before))
 
 element-set-from-after : tie.Need-element-set-from-after Inv-loop μ-loop
-element-set-from-after c = lower-edge (c .before .before)
+element-set-from-after c = lower-at (c .before .before)
 
 moved-requires-2 : tie.Need-moved-requires-2 Inv-loop μ-loop
 moved-requires-2 c κs = search needs
@@ -168,11 +145,12 @@ loop-less-3 c = omega (arith, c .before .before .before .before .before .before 
 
 loop-again-3 : tie.Need-loop-again-3 Inv-loop μ-loop
 loop-again-3 c =
-    let r = c .before .before .before .before in
-    let u = r .before .before .before .before .before .before in
+    let o = c .before .before .before in
+    let r = o .before .before in
+    let n = r .before .before .before in
+    let u = n .before .before in
     let i = u .before .before .before in
-    let m = i .before .loop .after in
-    again i _ (by-room u ∙ ap (λ (b : Bool). cond b (liftBoth m (edge i) (move i)) m) (sym (room (r .before)) ∙ not-false (r .before .room-up .result) (r .if2 .left)) ∙ lifted c)
+    again i _ (retry-moves (i .before .loop .after) _ (edge i) (n .next .result) (move i) (r .before .beside .result) (r .room-up .result) (i .before .loop .inv .1 .1 .0) (inside u .0) (n .next .ensures) (r .before .beside .ensures) (r .room-up .ensures) (o .lower .result) (c .before .moved .result) (c .moved2 .result) (not-false (r .room-up .result) (o .before .if2 .left)) (o .lower .ensures) (c .before .moved .ensures) (c .moved2 .ensures))
 
 returns : tie.Need-returns Inv-loop μ-loop
 returns c =
