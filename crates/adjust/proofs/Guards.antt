@@ -1,5 +1,5 @@
--- The tests in `upper`, `lift_hint` and `retry` that the Rust does not make change nothing on whole stems. The first pass comes only to places from which on
--- the stems are whole, so that a pair's lower edge has its upper edge above it; and it notes only edges that have an edge above them. Assumes nothing.
+-- The tests in `next`, `previous` and `second_pass` that the Rust does not make change nothing on whole stems. The first pass comes only to places from which on
+-- the stems are whole, so that a pair's lower edge has its upper edge above it; and it notes only edges that have an edge above them, and of a pair only the upper. Assumes nothing.
 use mathlib.Core.Path.{_≡_, refl, sym, ap, _∙_}
 use mathlib.Core.Bool.{Bool, true, false, cond, not, _&&_, false≢true}
 use mathlib.Core.List.{List, [], _∷_}
@@ -22,13 +22,11 @@ use Rattle.hintmap.proofs.Alike.{stems-alike}
 use Rattle.adjust.specs.declared.Note.{Note}
 use Rattle.adjust.specs.declared.Note.the-variants.{Settled, Missing}
 use Rattle.adjust.specs.declared.Notes.{Notes}
-use Rattle.adjust.specs.declared.Pass.{Pass}
-use Rattle.adjust.specs.Adjust.{none, gap, edgeAt, movedIn, roomUp, wantsNote, noteBy, decideOf}
-use Rattle.adjust.specs.Pass.{upperOf, notedOf, settleBy, settleOf, turnOf, passFrom, firstPass}
+use Rattle.adjust.specs.Adjust.{none, gap, edgeAt, besideBy, aboveOf, belowOf, roomUp, noteBy, noteOf, settleBy, settleOf}
+use Rattle.adjust.specs.Pass.{Pass, nextPlace, upperOf, notedOf, turnOf, passFrom, firstPass}
 use Rattle.adjust.specs.Second.{liftBoth, retryOf, secondPass, startOf, adjustOf}
 use Rattle.adjust.proofs.Keeps.{Kept, kept-at, kept-length, kept-alike, turn-kept, retry-kept}
 use Rattle.adjust.proofs.Turns.{upper-is, turn-keeps}
-use Rattle.adjust.proofs.Second.{lift-at}
 
 -- ---- the definitions without those tests
 -- the edge after a pair's lower edge
@@ -41,11 +39,8 @@ plainPass zero i p = p
 plainPass (suc n) i p = cond (ltb i (p .map .len)) (plainPass n (plainUpper (p .map) i + 1) (turnOf i (plainUpper (p .map) i) p)) p
 
 -- the second pass
-abbrev pub plainLift : HintMap → ℕ → Fixed → HintMap
-plainLift m j by = cond (isPair (edgeAt m j)) (movedIn (movedIn m j by) (j - 1) by) (movedIn m j by)
-
 abbrev pub plainRetry : HintMap → ℕ → Fixed → HintMap
-plainRetry m j by = cond (atMostF (addF (addF (edgeAt m j .«ds_coord») by) gap) (edgeAt m (j + 1) .«ds_coord»)) (plainLift m j by) m
+plainRetry m j by = cond (atMostF (addF (addF (edgeAt m j .«ds_coord») by) gap) (edgeAt m (j + 1) .«ds_coord»)) (liftBoth m j by) m
 
 unfoldable pub plainSecond : ℕ → Notes → HintMap → HintMap
 plainSecond zero n m = m
@@ -89,7 +84,7 @@ module _ (m : HintMap) (i : ℕ) (fits : m .len ≤ length (m .edges)) (inside :
       record { plain = e ∙ sym p; next = rw (e, add-one) r; above = λ t. absurd (false≢true (sym f ∙ (rw e at t))) }
 
   upper-pair : isPair (edgeAt m i) ≡ true → i + 1 < m .len → Stems (drop (suc (suc i)) (view m)) → Upper m i
-  unfolding upperOf
+  unfolding upperOf nextPlace
   upper-pair t l r =
       let e : upperOf m i ≡ i + 1 = rw (t, lt-ltb (i + 1) (m .len) l) in
       let p : plainUpper m i ≡ i + 1 = rw t in
@@ -136,17 +131,16 @@ note-more m n j room h all k l = go (eqb k (n .count)) refl
     go false e = rw (getD-set-other (n .at) (n .count) k j 0 (eqb-false k (n .count) e)) (all k (omega (arith, eqb-false k (n .count) e)))
 
 -- a note is made only where there is an edge above
-module _ (m : HintMap) (n : Notes) (j : ℕ) (by : Fixed) (room : n .count < length (n .at)) (above : isPair (edgeAt m j) ≡ true → 0 < j) (all : AllNoted m n) where
-  note-by : (s t u : Bool) → ltb (j + 1) (m .len) ≡ t → AllNoted m (notedOf n j (noteBy (s && (t && u)) by))
+module _ (m : HintMap) (n : Notes) (j : ℕ) (room : n .count < length (n .at)) (above : isPair (edgeAt m j) ≡ true → 0 < j) (all : AllNoted m n) where
+  note-by : (s : Bool) (by : Fixed) → j + 1 < m .len → AllNoted m (notedOf n j (noteBy s by))
   unfolding notedOf
-  note-by false t u q = all
-  note-by true false u q = all
-  note-by true true false q = all
-  note-by true true true q = note-more m n j room (record { below = ltb-true (j + 1) (m .len) q; above = above }) all
+  note-by true by l = note-more m n j room (record { below = l; above = above }) all
+  note-by false by l = all
 
-  note-made : (short : Bool) → AllNoted m (notedOf n j (noteBy (wantsNote m j short) by))
-  unfolding wantsNote
-  note-made short = note-by short (ltb (j + 1) (m .len)) (not (edgeAt m (j + 1) .locked)) refl
+  note-made : (b : Bool) → ltb (j + 1) (m .len) ≡ b → (e : Hint) (short : Bool) (by : Fixed) → AllNoted m (notedOf n j (noteOf (besideBy b e) short by))
+  unfolding noteOf notedOf
+  note-made true q e short by = note-by (short && not (e .locked)) by (ltb-true (j + 1) (m .len) q)
+  note-made false q e short by = all
 
 -- the array of notes keeps its length
 notes-room : (n : Notes) (j : ℕ) (t : Note) → length (notedOf n j t .at) ≡ length (n .at)
@@ -164,18 +158,14 @@ pub record Sound (i : ℕ) (p : Pass) : Type 0 where
   pub noted : AllNoted (p .map) (p .notes)
 
 module _ (i j : ℕ) (p : Pass) (s : Sound i p) (l : p .notes .count < length (p .notes .at)) (above : isPair (edgeAt (p .map) j) ≡ true → 0 < j) where
-  settle-noted : (b : Bool) → AllNoted (p .map) (settleBy b i j p .notes)
-  unfolding decideOf
+  settle-noted : (b : Bool) → AllNoted (p .map) (notedOf (p .notes) j (settleBy b (belowOf (p .map) i) (edgeAt (p .map) i) (edgeAt (p .map) j) (aboveOf (p .map) j) .note))
+  unfolding notedOf
   settle-noted true = s .noted
-  settle-noted false = note-made (p .map) (p .notes) j _ l above (s .noted) _
-
-  settle-room : (b : Bool) → length (settleBy b i j p .notes .at) ≡ length (p .notes .at)
-  settle-room true = refl
-  settle-room false = notes-room (p .notes) j (decideOf (p .map) i j .note)
+  settle-noted false = note-made (p .map) (p .notes) j l above (s .noted) (ltb (j + 1) (p .map .len)) refl (edgeAt (p .map) (j + 1)) _ _
 
   turn-room : length (turnOf i j p .notes .at) ≡ length (p .notes .at)
-  unfolding turnOf settleOf
-  turn-room = settle-room (edgeAt (p .map) i .locked)
+  unfolding turnOf
+  turn-room = notes-room (p .notes) j _
 
   turn-made : AllNoted (p .map) (turnOf i j p .notes)
   unfolding turnOf settleOf
@@ -232,20 +222,10 @@ pass-plain (suc n) i p s = go (ltb i (p .map .len)) refl (λ t. pass-plain n (up
         record { plain = r .plain ∙ ap (λ (j : ℕ). plainPass n (j + 1) (turnOf i j p)) (starts-upper (p .map) i (s .fits) l (s .starts) .plain); noted = r .noted }
 
 -- ---- the second pass
--- a pair's upper edge is not the first
-lift-plain : (m : HintMap) (j : ℕ) (by : Fixed) → (isPair (edgeAt m j) ≡ true → 0 < j) → liftBoth m j by ≡ plainLift m j by
-unfolding liftBoth
-lift-plain m zero by h = go (isPair (edgeAt m zero)) refl
-  where
-    go : (b : Bool) → isPair (edgeAt m zero) ≡ b → movedIn m zero by ≡ cond b (movedIn (movedIn m zero by) (zero - 1) by) (movedIn m zero by)
-    go true e = absurd (lt-irrefl 0 (h e))
-    go false e = refl
-lift-plain m (suc j) by h = lift-at m (suc j) by (omega arith)
-
 -- a note that is sound needs no test
 retry-plain : (m : HintMap) (j : ℕ) (by : Fixed) → Noted m j → retryOf m j by ≡ plainRetry m j by
 unfolding retryOf roomUp
-retry-plain m j by h = rw (lt-ltb j (m .len) (omega (arith, h .below)), lt-ltb (j + 1) (m .len) (h .below)) (ap (λ (x : HintMap). cond (atMostF (addF (addF (edgeAt m j .«ds_coord») by) gap) (edgeAt m (j + 1) .«ds_coord»)) x m) (lift-plain m j by (h .above)))
+retry-plain m j by h = rw (lt-ltb j (m .len) (omega (arith, h .below)), lt-ltb (j + 1) (m .len) (h .below))
 
 -- nor do all of them
 second-plain : (k : ℕ) (n : Notes) (m : HintMap) → ((i : ℕ) → i < k → Noted m (getD (n .at) i 0)) → secondPass k n m ≡ plainSecond k n m

@@ -2,10 +2,10 @@
 use mathlib.Core.Path.{_≡_, refl, sym, ap, _∙_}
 use mathlib.Core.Bool.{Bool, true, false, cond, _&&_}
 use mathlib.Core.List.{List, [], _∷_, map}
-use Prim.Native.Nat.{ℕ, zero, suc, _+_}
+use Prim.Native.Nat.{ℕ, zero, suc, _+_, _-_}
 use native.Mathlib.Omega.{arith}
 use lib.Dec.{ltb}
-use lib.ListN.{length, getD, length-map, List·getD-map}
+use lib.ListN.{length, getD, set, length-map, List·getD-map}
 use lib.Seq.{map-set-same}
 use Rattle.fixed.specs.declared.Fixed.{Fixed}
 use Rattle.fixed.specs.Fixed.{sameF}
@@ -16,10 +16,20 @@ use Rattle.hintmap.specs.Map.{view}
 use Rattle.hintmap.specs.Stems.{Stems, Alike, nil, cons}
 use Rattle.hintmap.proofs.Alike.{alike-take, stems-alike}
 use Rattle.adjust.specs.declared.Notes.{Notes}
-use Rattle.adjust.specs.declared.Pass.{Pass}
-use Rattle.adjust.specs.Adjust.{none, edgeAt, movedHint, movedIn, roomUp, rescaleOf, withEdge, atScale, slope, decideOf}
-use Rattle.adjust.specs.Pass.{upperOf, bothBy, movedBoth, rescaleBoth, settleBy, settleOf, turnOf, passFrom, firstPass}
+use Rattle.adjust.specs.declared.Neighbour.{Neighbour}
+use Rattle.adjust.specs.Adjust.{none, edgeAt, aboveOf, belowOf, roomUp, movedHint, settleBy, settleOf, atScale, rescaledBy, rescaledHint, withEdge}
+use Rattle.adjust.specs.Pass.{Pass, upperOf, lowerBy, turnOf, passFrom, firstPass}
 use Rattle.adjust.specs.Second.{liftBoth, retryOf, secondPass, startOf, adjustOf}
+
+-- ---- lists whose edges have a part in common
+module _ {B : Type 0} (f : Hint → B) (xs ys : List Hint) (p : map f ys ≡ map f xs) (k : ℕ) where
+  -- each edge has it
+  same-at : f (getD ys k noHint) ≡ f (getD xs k noHint)
+  same-at = sym (List·getD-map f ys k noHint) ∙ ap (λ (zs : List B). getD zs k (f noHint)) p ∙ List·getD-map f xs k noHint
+
+  -- and so has the list with an edge put in that has it too
+  put-same : (e : Hint) → f e ≡ f (getD xs k noHint) → map f (set ys k e) ≡ map f xs
+  put-same e q = map-set-same f ys k e noHint (q ∙ sym same-at) ∙ p
 
 -- ---- what is kept
 -- an edge without its device height and its scale: kind, marks, stem number and character height
@@ -42,7 +52,7 @@ kept-trans p q = record { len = q .len ∙ p .len; valid = q .valid ∙ p .valid
 
 -- each edge keeps what is still, and the list its length
 pub kept-at : (m n : HintMap) → Kept m n → (k : ℕ) → still (edgeAt n k) ≡ still (edgeAt m k)
-kept-at m n p k = sym (List·getD-map still (n .edges) k noHint) ∙ ap (λ (es : List Hint). getD es k noHint) (p .edges) ∙ List·getD-map still (m .edges) k noHint
+kept-at m n p k = same-at still (m .edges) (n .edges) (p .edges) k
 
 pub kept-length : (m n : HintMap) → Kept m n → length (n .edges) ≡ length (m .edges)
 kept-length m n p = sym (length-map (n .edges) still) ∙ ap length (p .edges) ∙ length-map (m .edges) still
@@ -64,42 +74,41 @@ kept-stems : (m n : HintMap) → Kept m n → Stems (view m) → Stems (view n)
 kept-stems m n p s = stems-alike (kept-alike m n p) s
 
 -- ---- one edge
-set-kept : (m : HintMap) (k : ℕ) (e : Hint) → still e ≡ still (edgeAt m k) → Kept m (withEdge m k e)
-set-kept m k e q = record { len = refl; valid = refl; scale = refl; edges = map-set-same still (m .edges) k e noHint q }
-
-moved-kept : (m : HintMap) (k : ℕ) (by : Fixed) → Kept m (movedIn m k by)
-moved-kept m k by = set-kept m k (movedHint (edgeAt m k) by) refl
+set-kept : (m n : HintMap) (k : ℕ) (e : Hint) → Kept m n → still e ≡ still (edgeAt m k) → Kept m (withEdge n k e)
+set-kept m n k e p q = record { len = p .len; valid = p .valid; scale = p .scale; edges = put-same still (m .edges) (n .edges) (p .edges) k e q }
 
 cond-kept : (b : Bool) {m x y : HintMap} → Kept m x → Kept m y → Kept m (cond b x y)
 cond-kept true p q = p
 cond-kept false p q = q
 
-both-kept : (b : Bool) {m x y : HintMap} → Kept m x → Kept m y → Kept m (bothBy b x y)
-both-kept true p q = p
-both-kept false p q = q
+-- a line sets a scale
+rescaled-still : (s : Bool) (b a : Hint) → still (rescaledBy s b a) ≡ still b
+rescaled-still true b a = refl
+rescaled-still false b a = refl
 
-rescale-kept : (m : HintMap) (k : ℕ) → Kept m (rescaleOf m k)
-unfolding rescaleOf
-rescale-kept m zero = kept-refl m
-rescale-kept m (suc k) =
-    cond-kept (sameF (edgeAt m (suc k) .«cs_coord») (edgeAt m k .«cs_coord»)) (kept-refl m)
-    (set-kept m k (atScale (edgeAt m k) (slope (edgeAt m k) (edgeAt m (suc k)))) refl)
+line-still : (b a : Hint) → still (rescaledHint b a) ≡ still b
+unfolding rescaledHint
+line-still b a = rescaled-still (sameF (a .«cs_coord») (b .«cs_coord»)) b a
 
 -- ---- a turn, and the first pass
-module _ (i j : ℕ) (p : Pass) where
-  settle-kept : (b : Bool) → Kept (p .map) (settleBy b i j p .map)
-  unfolding movedBoth
-  settle-kept true = kept-refl (p .map)
-  settle-kept false =
-      let by = decideOf (p .map) i j .by in
-      both-kept (ltb i j) (kept-trans (moved-kept (p .map) i by) (moved-kept (movedIn (p .map) i by) j by)) (moved-kept (p .map) i by)
+settle-still : (b : Bool) (below : Neighbour) (low high : Hint) (above : Neighbour) →
+    (still (settleBy b below low high above .low) ≡ still low) × (still (settleBy b below low high above .high) ≡ still high)
+unfolding movedHint
+settle-still true below low high above = (refl, refl)
+settle-still false below low high above = (refl, refl)
 
+module _ (i j : ℕ) (p : Pass) where
   pub turn-kept : Kept (p .map) (turnOf i j p .map)
-  unfolding turnOf settleOf rescaleBoth
+  unfolding turnOf settleOf
   turn-kept =
-      let b = edgeAt (p .map) i .locked in
-      let m = settleBy b i j p .map in
-      kept-trans (settle-kept b) (both-kept (ltb i j) (kept-trans (rescale-kept m i) (rescale-kept (rescaleOf m i) j)) (rescale-kept m i))
+      let m = p .map in
+      let b = edgeAt m i .locked in
+      let t = settleBy b (belowOf m i) (edgeAt m i) (edgeAt m j) (aboveOf m j) in
+      let e = settle-still b (belowOf m i) (edgeAt m i) (edgeAt m j) (aboveOf m j) in
+      let x = rescaledHint (edgeAt m (i - 1)) (t .low) in
+      let y = rescaledHint (t .low) (t .high) in
+      let n = withEdge m (i - 1) x in
+      set-kept m (withEdge n i y) j (t .high) (set-kept m n i y (set-kept m m (i - 1) x (kept-refl m) (line-still (edgeAt m (i - 1)) (t .low))) (line-still (t .low) (t .high) ∙ e .0)) (e .1)
 
 pass-kept : (n i : ℕ) (p : Pass) → Kept (p .map) (passFrom n i p .map)
 unfolding passFrom
@@ -122,15 +131,16 @@ first-kept p = pass-kept (p .map .len) 0 p
 
 -- ---- the second pass
 lift-kept : (m : HintMap) (j : ℕ) (by : Fixed) → Kept m (liftBoth m j by)
-unfolding liftBoth
-lift-kept m zero by = moved-kept m zero by
-lift-kept m (suc j) by =
-    cond-kept (isPair (edgeAt m (suc j))) (kept-trans (moved-kept m (suc j) by) (moved-kept (movedIn m (suc j) by) j by)) (moved-kept m (suc j) by)
+unfolding liftBoth movedHint
+lift-kept m j by =
+    let i = lowerBy (isPair (edgeAt m j)) j in
+    let e = movedHint (edgeAt m i) by in
+    set-kept m (withEdge m i e) j (movedHint (edgeAt m j) by) (set-kept m m i e (kept-refl m) refl) refl
 
 -- a note that is tried
 pub retry-kept : (m : HintMap) (j : ℕ) (by : Fixed) → Kept m (retryOf m j by)
 unfolding retryOf
-retry-kept m j by = cond-kept (ltb j (m .len) && roomUp m j by) (lift-kept m j by) (kept-refl m)
+retry-kept m j by = cond-kept (ltb j (m .len) && roomUp (aboveOf m j) (edgeAt m j .«ds_coord») by) (lift-kept m j by) (kept-refl m)
 
 second-kept : (k : ℕ) (n : Notes) (m : HintMap) → Kept m (secondPass k n m)
 unfolding secondPass
@@ -143,19 +153,17 @@ second-kept (suc k) n m =
 abbrev pub scales : HintMap → List Fixed
 scales m = map (λ (e : Hint). e .scale) (m .edges)
 
-moved-scales : (m : HintMap) (k : ℕ) (by : Fixed) → scales (movedIn m k by) ≡ scales m
-moved-scales m k by = map-set-same (λ (e : Hint). e .scale) (m .edges) k (movedHint (edgeAt m k) by) noHint refl
-
 cond-scales : (b : Bool) (m x y : HintMap) → scales x ≡ scales m → scales y ≡ scales m → scales (cond b x y) ≡ scales m
 cond-scales true m x y p q = p
 cond-scales false m x y p q = q
 
 lift-scales : (m : HintMap) (j : ℕ) (by : Fixed) → scales (liftBoth m j by) ≡ scales m
-unfolding liftBoth
-lift-scales m zero by = moved-scales m zero by
-lift-scales m (suc j) by =
-    let n = movedIn m (suc j) by in
-    cond-scales (isPair (edgeAt m (suc j))) m (movedIn n j by) n (moved-scales n j by ∙ moved-scales m (suc j) by) (moved-scales m (suc j) by)
+unfolding liftBoth movedHint
+lift-scales m j by =
+    let f : Hint → Fixed = λ e. e .scale in
+    let i = lowerBy (isPair (edgeAt m j)) j in
+    let n = withEdge m i (movedHint (edgeAt m i) by) in
+    put-same f (m .edges) (n .edges) (put-same f (m .edges) (m .edges) refl i (movedHint (edgeAt m i) by) refl) j (movedHint (edgeAt m j) by) refl
 
 second-scales : (k : ℕ) (n : Notes) (m : HintMap) → scales (secondPass k n m) ≡ scales m
 unfolding secondPass retryOf
@@ -163,7 +171,7 @@ second-scales zero n m = refl
 second-scales (suc k) n m =
     let j = getD (n .at) k 0 in
     let by = getD (n .by) k none in
-    second-scales k n (retryOf m j by) ∙ cond-scales (ltb j (m .len) && roomUp m j by) m (liftBoth m j by) m (lift-scales m j by) refl
+    second-scales k n (retryOf m j by) ∙ cond-scales (ltb j (m .len) && roomUp (aboveOf m j) (edgeAt m j .«ds_coord») by) m (liftBoth m j by) m (lift-scales m j by) refl
 
 -- ---- the whole
 -- adjusting changes no edge but on the device, no number of edges, and nothing else of the map

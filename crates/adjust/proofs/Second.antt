@@ -1,36 +1,23 @@
--- The second pass in the words of the code, and bounds of both passes. Assumes nothing.
-use mathlib.Core.Path.{_≡_, refl}
+-- The second pass in the words of the code. Assumes nothing.
+use mathlib.Core.Path.{_≡_, refl, _∙_}
 use mathlib.Core.Bool.{Bool, true, false, cond}
 use Prim.Native.Nat.{ℕ, zero, suc, _+_, _-_, _≤_, _<_}
 use native.Mathlib.Nat.{lt-irrefl}
 use native.Mathlib.Omega.{arith}
-use lib.ListN.{getD}
 use lib.Dec.{ltb}
-use borrow.Author.Tests.{ltb-true}
+use lib.ListN.{getD}
+use borrow.Author.Tests.{lt-ltb, le-ltb}
 use Rattle.fixed.specs.declared.Fixed.{Fixed}
 use Rattle.hintmap.specs.declared.map.HintMap.{HintMap}
+use Rattle.stems.specs.declared.edge.Hint.{Hint}
 use Rattle.stems.specs.Edge.{isPair}
+use Rattle.adjust.specs.declared.Neighbour.{Neighbour}
 use Rattle.adjust.specs.declared.Notes.{Notes}
-use Rattle.adjust.specs.declared.Pass.{Pass}
-use Rattle.adjust.specs.Adjust.{none, edgeAt, movedIn}
-use Rattle.adjust.specs.Pass.{upperOf, turnOf, passFrom, firstPass}
+use Rattle.adjust.specs.Adjust.{none, edgeAt, besideBy, roomUp, movedHint, withEdge}
+use Rattle.adjust.specs.Pass.{nextPlace, lowerBy}
 use Rattle.adjust.specs.Second.{liftBoth, retryOf, secondPass}
 use Rattle.adjust.proofs.Keeps.{retry-kept}
-use Rattle.adjust.proofs.Turns.{upper-is, turn-keeps}
-
--- a hint that is not the first edge
-pub lift-at : (m : HintMap) (j : ℕ) (by : Fixed) → 0 < j → liftBoth m j by ≡ cond (isPair (edgeAt m j)) (movedIn (movedIn m j by) (j - 1) by) (movedIn m j by)
-unfolding liftBoth
-lift-at m zero by p = absurd (lt-irrefl 0 p)
-lift-at m (suc j) by p =
-    let e : suc j - 1 ≡ j = omega arith in
-    rw e
-
--- the first edge is a hint by itself
-pub lift-none : (m : HintMap) (j : ℕ) (by : Fixed) → j ≤ 0 → liftBoth m j by ≡ movedIn m j by
-unfolding liftBoth
-lift-none m zero by p = refl
-lift-none m (suc j) by p = absurd (lt-irrefl 0 (omega arith))
+use Rattle.adjust.proofs.Turns.{above-next}
 
 -- a note that is tried keeps the number of edges
 pub retry-len : (m : HintMap) (j : ℕ) (by : Fixed) → retryOf m j by .len ≡ m .len
@@ -50,29 +37,30 @@ unfolding secondPass
 second-ends zero n m p = refl
 second-ends (suc k) n m p = absurd (lt-irrefl 0 (omega arith))
 
--- the first pass from edge i on keeps the number of edges, and makes no more notes than there are
-pass-keeps : (n i : ℕ) (p : Pass) → i ≤ p .map .len → p .notes .count ≤ i → (passFrom n i p .map .len ≡ p .map .len) × (passFrom n i p .notes .count ≤ p .map .len)
-unfolding passFrom
-pass-keeps zero i p l c = (refl, omega arith)
-pass-keeps (suc n) i p l c = go (ltb i (p .map .len)) refl (pass-keeps n (upperOf (p .map) i + 1) next)
-  where
-    next : Pass
-    next = turnOf i (upperOf (p .map) i) p
+-- a note of an edge past the map changes nothing
+pub retry-none : (m : HintMap) (j : ℕ) (by : Fixed) → m .len ≤ j → retryOf m j by ≡ m
+unfolding retryOf
+retry-none m j by l = rw (le-ltb j (m .len) l)
 
-    rest : Pass
-    rest = passFrom n (upperOf (p .map) i + 1) next
+-- ---- a note of an edge of the map, in the words of the code
+-- n is the place after j, and r whether there is room
+module _ (m : HintMap) (len j n : ℕ) (by : Fixed) (above : Neighbour) (r : Bool) (l : m .len ≡ len) (inside : j < len) (en : n ≡ nextPlace len j)
+    (eabove : above ≡ besideBy (ltb (j + 1) len) (edgeAt m n)) (er : r ≡ roomUp above (edgeAt m j .«ds_coord») by) where
+  by-room : retryOf m j by ≡ cond r (liftBoth m j by) m
+  unfolding retryOf
+  by-room = rw (lt-ltb j (m .len) (omega arith), er, eabove, en, above-next m len j l)
 
-    go : (b : Bool) → ltb i (p .map .len) ≡ b →
-        (upperOf (p .map) i + 1 ≤ next .map .len → next .notes .count ≤ upperOf (p .map) i + 1 → (rest .map .len ≡ next .map .len) × (rest .notes .count ≤ next .map .len)) →
-        (cond b rest p .map .len ≡ p .map .len) × (cond b rest p .notes .count ≤ p .map .len)
-    go true e ih =
-        let u = upper-is (p .map) i (ltb-true i (p .map .len) e) in
-        let t = turn-keeps i (upperOf (p .map) i) p in
-        let r = ih (omega arith) (omega arith) in
-        (omega arith, omega arith)
-    go false e ih = (refl, omega arith)
+  -- without room the hint stays
+  pub retry-stays : r ≡ false → retryOf m j by ≡ m
+  retry-stays e = by-room ∙ rw e
 
--- and so does the whole
-pub first-keeps : (p : Pass) → p .notes .count ≤ 0 → (firstPass p .map .len ≡ p .map .len) × (firstPass p .notes .count ≤ p .map .len)
-unfolding firstPass
-first-keeps p c = pass-keeps (p .map .len) 0 p (omega arith) c
+  -- with room both its edges move
+  pub retry-moves : (i : ℕ) (x y : Hint) → r ≡ true → i ≡ lowerBy (isPair (edgeAt m j)) j → x ≡ movedHint (edgeAt m i) by → y ≡ movedHint (edgeAt m j) by →
+      retryOf m j by ≡ withEdge (withEdge m i x) j y
+  unfolding liftBoth
+  retry-moves i x y e ei ex ey = by-room ∙ rw (e, ex, ey, ei)
+
+-- the lower edge of a hint is its upper edge or below that
+pub lower-is : (pair : Bool) (j : ℕ) → lowerBy pair j ≤ j
+lower-is true j = omega arith
+lower-is false j = omega arith

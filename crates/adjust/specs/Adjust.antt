@@ -1,6 +1,6 @@
 -- The adjustment of one hint (01, "The map", Adjust). A move down is a number not above 0.
-use mathlib.Core.Bool.{Bool, true, false, not, cond, _&&_, _||_}
-use Prim.Native.Nat.{ℕ, zero, suc, _+_}
+use mathlib.Core.Bool.{Bool, true, false, not, _&&_}
+use Prim.Native.Nat.{ℕ, _+_, _-_}
 use lib.ListN.{getD, set}
 use lib.IntN.{pos}
 use lib.Dec.{ltb}
@@ -13,7 +13,9 @@ use Rattle.adjust.specs.declared.Moves.{Moves}
 use Rattle.adjust.specs.declared.Choice.{Choice}
 use Rattle.adjust.specs.declared.Note.{Note}
 use Rattle.adjust.specs.declared.Note.the-variants.{Settled, Missing}
-use Rattle.adjust.specs.declared.Decision.{Decision}
+use Rattle.adjust.specs.declared.Neighbour.{Neighbour}
+use Rattle.adjust.specs.declared.Neighbour.the-variants.{Absent, Edge}
+use Rattle.adjust.specs.declared.Aligned.{Aligned}
 
 -- no move
 abbrev pub none : Fixed
@@ -31,11 +33,23 @@ gap = fromBits (pos 32768)
 abbrev pub edgeAt : HintMap → ℕ → Hint
 edgeAt m k = getD (m .edges) k noHint
 
+-- an edge beside a hint, where the test for its being there held
+abbrev pub besideBy : Bool → Hint → Neighbour
+besideBy true e = Edge e
+besideBy false e = Absent
+
+-- the edge above edge j, and the edge below edge i
+abbrev pub aboveOf : HintMap → ℕ → Neighbour
+aboveOf m j = besideBy (ltb (j + 1) (m .len)) (edgeAt m (j + 1))
+
+abbrev pub belowOf : HintMap → ℕ → Neighbour
+belowOf m i = besideBy (ltb 0 i) (edgeAt m (i - 1))
+
 -- the move up from a fraction to the next whole pixel
 unfoldable pub toNext : Fixed → Fixed
 toNext f = cond (sameF f none) none (subF pixel f)
 
--- the nearest whole pixels above and below that one of the two edges can come to
+-- the smallest move up and the smallest move down that put either edge on a whole pixel, from the device heights of the two. An edge that is on one already needs no move
 unfoldable pub movesOf : Fixed → Fixed → Moves
 movesOf low high =
     record {
@@ -43,46 +57,53 @@ movesOf low high =
       down = maxF (subF none (fractF low)) (subF none (fractF high));
     }
 
--- the upper edge j, moved up, stays half a pixel under the edge above it, if there is one
-unfoldable pub roomUp : HintMap → ℕ → Fixed → Bool
-roomUp m j by = not (ltb (j + 1) (m .len)) || atMostF (addF (addF (edgeAt m j .«ds_coord») by) gap) (edgeAt m (j + 1) .«ds_coord»)
+-- room up: no edge above, or its device height at least the upper edge's, moved, and half a pixel
+unfoldable pub roomUp : Neighbour → Fixed → Fixed → Bool
+roomUp Absent high by = true
+roomUp (Edge above) high by = atMostF (addF (addF high by) gap) (above .«ds_coord»)
 
--- the lower edge i, moved down, stays half a pixel over the edge below it, if there is one
-unfoldable pub roomDown : HintMap → ℕ → Fixed → Bool
-roomDown m zero by = true
-roomDown m (suc i) by = atMostF (edgeAt m i .«ds_coord») (subF (addF (edgeAt m (suc i) .«ds_coord») by) gap)
+-- room down: none below, or its device height at most the lower edge's, moved, less half a pixel
+unfoldable pub roomDown : Neighbour → Fixed → Fixed → Bool
+roomDown Absent low by = true
+roomDown (Edge below) low by = atMostF (below .«ds_coord») (subF (addF low by) gap)
 
--- with room both ways the shorter move, up where they are as long; with room one way that one; else none. It is short of the best where there was no room for a shorter move up
+-- the move made, by the room up and the room down. Both: the shorter, ties up; one: that one; none: stay. A hint fell short if it moved down for want of room above where up was shorter, or stayed
 unfoldable pub choiceOf : Bool → Bool → Moves → Choice
 choiceOf true true m = record { by = cond (lessF (negF (m .down)) (m .up)) (m .down) (m .up); short = false }
 choiceOf true false m = record { by = m .up; short = false }
 choiceOf false true m = record { by = m .down; short = lessF (m .up) (negF (m .down)) }
 choiceOf false false m = record { by = none; short = true }
 
--- a hint that fell short can be tried again once an unlocked edge above it has moved
-unfoldable pub wantsNote : HintMap → ℕ → Bool → Bool
-wantsNote m j short = short && (ltb (j + 1) (m .len) && not (edgeAt m (j + 1) .locked))
-
 -- the missing move is noted where the test held
 abbrev pub noteBy : Bool → Fixed → Note
 noteBy true d = Missing d
 noteBy false d = Settled
 
--- the move chosen, and what the smallest move up has over it
-abbrev pub decisionOf : HintMap → ℕ → Moves → Choice → Decision
-decisionOf m j v c = record { by = c .by; note = noteBy (wantsNote m j (c .short)) (subF (v .up) (c .by)) }
-
--- the move chosen by the room that there is
-abbrev pub decideBy : HintMap → ℕ → ℕ → Moves → Decision
-decideBy m i j v = decisionOf m j v (choiceOf (roomUp m j (v .up)) (roomDown m i (v .down)) v)
-
--- what is done with the hint whose lower edge is i and whose upper edge is j
-unfoldable pub decideOf : HintMap → ℕ → ℕ → Decision
-decideOf m i j = decideBy m i j (movesOf (edgeAt m i .«ds_coord») (edgeAt m j .«ds_coord»))
+-- a hint that fell short is noted with its missing move, if the edge above exists and is unlocked
+unfoldable pub noteOf : Neighbour → Bool → Fixed → Note
+noteOf Absent short d = Settled
+noteOf (Edge above) short d = noteBy (short && not (above .locked)) d
 
 -- an edge moved on the device
-abbrev pub movedHint : Hint → Fixed → Hint
+unfoldable pub movedHint : Hint → Fixed → Hint
 movedHint e by = atDevice e (addF (e .«ds_coord») by)
+
+-- a hint whose move is chosen; the missing move is up less the move made
+abbrev pub movedBy : Hint → Hint → Neighbour → Moves → Choice → Aligned
+movedBy low high above v c = record { low = movedHint low (c .by); high = movedHint high (c .by); note = noteOf above (c .short) (subF (v .up) (c .by)) }
+
+-- the move is chosen by the room that there is
+abbrev pub chosenBy : Neighbour → Hint → Hint → Neighbour → Moves → Aligned
+chosenBy below low high above v = movedBy low high above v (choiceOf (roomUp above (high .«ds_coord») (v .up)) (roomDown below (low .«ds_coord») (v .down)) v)
+
+-- a locked hint stays where it is
+abbrev pub settleBy : Bool → Neighbour → Hint → Hint → Neighbour → Aligned
+settleBy true below low high above = record { low = low; high = high; note = Settled }
+settleBy false below low high above = chosenBy below low high above (movesOf (low .«ds_coord») (high .«ds_coord»))
+
+-- what is done with a hint, from the edge below it to the edge above. It is locked if its lower edge is
+unfoldable pub settleOf : Neighbour → Hint → Hint → Neighbour → Aligned
+settleOf below low high above = settleBy (low .locked) below low high above
 
 -- an edge with another scale
 abbrev pub atScale : Hint → Fixed → Hint
@@ -97,20 +118,18 @@ atScale x s =
       scale = s;
     }
 
--- the map with another edge k, and with its edge k moved
-abbrev pub withEdge : HintMap → ℕ → Hint → HintMap
-withEdge m k e = record { edges = set (m .edges) k e; len = m .len; «is_valid» = m .«is_valid»; scale = m .scale }
-
-abbrev pub movedIn : HintMap → ℕ → Fixed → HintMap
-movedIn m k by = withEdge m k (movedHint (edgeAt m k) by)
-
--- the slope of the line from an edge to the next
+-- the slope of the line from an edge to the next: device difference by character difference
 abbrev pub slope : Hint → Hint → Fixed
 slope b a = divF (subF (a .«ds_coord») (b .«ds_coord»)) (subF (a .«cs_coord») (b .«cs_coord»))
 
--- the edge before k gets the slope of the line to edge k, unless both have one character height; edge 0 has none before it
-unfoldable pub rescaleOf : HintMap → ℕ → HintMap
-rescaleOf m zero = m
-rescaleOf m (suc k) =
-    cond (sameF (edgeAt m (suc k) .«cs_coord») (edgeAt m k .«cs_coord»)) m
-    (withEdge m k (atScale (edgeAt m k) (slope (edgeAt m k) (edgeAt m (suc k)))))
+-- an edge gets the slope of the line to the next, if their character heights differ
+abbrev pub rescaledBy : Bool → Hint → Hint → Hint
+rescaledBy true b a = b
+rescaledBy false b a = atScale b (slope b a)
+
+unfoldable pub rescaledHint : Hint → Hint → Hint
+rescaledHint b a = rescaledBy (sameF (a .«cs_coord») (b .«cs_coord»)) b a
+
+-- the map with another edge k
+abbrev pub withEdge : HintMap → ℕ → Hint → HintMap
+withEdge m k e = record { edges = set (m .edges) k e; len = m .len; «is_valid» = m .«is_valid»; scale = m .scale }

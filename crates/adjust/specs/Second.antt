@@ -7,18 +7,20 @@ use Rattle.fixed.specs.declared.Fixed.{Fixed}
 use Rattle.hintmap.specs.declared.map.HintMap.{HintMap}
 use Rattle.stems.specs.Edge.{isPair}
 use Rattle.adjust.specs.declared.Notes.{Notes}
-use Rattle.adjust.specs.declared.Pass.{Pass}
-use Rattle.adjust.specs.Adjust.{none, edgeAt, movedIn, roomUp}
-use Rattle.adjust.specs.Pass.{firstPass}
+use Rattle.adjust.specs.Adjust.{none, edgeAt, aboveOf, roomUp, movedHint, withEdge}
+use Rattle.adjust.specs.Pass.{Pass, lowerBy, firstPass}
 
--- both edges of the hint whose upper edge is j, moved alike
+-- both edges of a hint moved alike. Those of a ghost are one
+abbrev pub movedBoth : HintMap → ℕ → ℕ → Fixed → HintMap
+movedBoth m i j by = withEdge (withEdge m i (movedHint (edgeAt m i) by)) j (movedHint (edgeAt m j) by)
+
+-- the hint whose upper edge is j, moved
 unfoldable pub liftBoth : HintMap → ℕ → Fixed → HintMap
-liftBoth m zero by = movedIn m zero by
-liftBoth m (suc j) by = cond (isPair (edgeAt m (suc j))) (movedIn (movedIn m (suc j) by) j by) (movedIn m (suc j) by)
+liftBoth m j by = movedBoth m (lowerBy (isPair (edgeAt m j)) j) j by
 
 -- a noted hint is moved if there is room by now. That every note is of an edge of the map is proofs/Guards.antt
 unfoldable pub retryOf : HintMap → ℕ → Fixed → HintMap
-retryOf m j by = cond (ltb j (m .len) && roomUp m j by) (liftBoth m j by) m
+retryOf m j by = cond (ltb j (m .len) && roomUp (aboveOf m j) (edgeAt m j .«ds_coord») by) (liftBoth m j by) m
 
 -- the first k notes are tried, the newest of them first
 unfoldable pub secondPass : ℕ → Notes → HintMap → HintMap

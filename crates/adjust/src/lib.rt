@@ -3,10 +3,11 @@ use fixed::Fixed;
 use hintmap::HintMap;
 use stems::Hint;
 ghost use mathlib.Core.Path.{_≡_};
-ghost use Prim.Native.Nat.{_<_, _≤_};
-ghost use Rattle.adjust.specs.Adjust.{toNext, movesOf, roomUp, roomDown, choiceOf, wantsNote, decideOf, atScale, movedIn, movedHint, rescaleOf};
-ghost use Rattle.adjust.specs.Pass.{upperOf, notedOf, movedBoth, settleOf, rescaleBoth, turnOf, firstPass};
-ghost use Rattle.adjust.specs.Second.{liftBoth, retryOf, secondPass, adjustOf};
+ghost use Prim.Native.Nat.{_-_, _<_, _≤_};
+ghost use Rattle.stems.specs.Edge.{isPair};
+ghost use Rattle.adjust.specs.Adjust.{toNext, movesOf, besideBy, roomUp, roomDown, choiceOf, noteOf, movedHint, settleOf, rescaledHint};
+ghost use Rattle.adjust.specs.Pass.{nextPlace, upperBy, lowerBy};
+ghost use Rattle.adjust.specs.Second.{secondPass, adjustOf};
 
 // The smallest move up and the smallest move down. A move down is not above 0.
 pub struct Moves {
@@ -26,9 +27,16 @@ pub enum Note {
     Missing(Fixed),
 }
 
-// The move that is made, and what is noted.
-pub struct Decision {
-    pub by: Fixed,
+// The edge above or below a hint, where there is one.
+pub enum Neighbour {
+    Absent,
+    Edge(Hint),
+}
+
+// The edges of a hint once it is moved, and what is noted of it.
+pub struct Aligned {
+    pub low: Hint,
+    pub high: Hint,
     pub note: Note,
 }
 
@@ -37,12 +45,6 @@ pub struct Notes {
     pub at: [usize; 96],
     pub by: [Fixed; 96],
     pub count: usize,
-}
-
-// The map and the notes, between two turns of the first pass.
-pub struct Pass {
-    pub map: HintMap,
-    pub notes: Notes,
 }
 
 // From `adjust`: the move up from a fraction to the next whole pixel.
@@ -67,33 +69,30 @@ fn smallest(low: Fixed, high: Fixed) -> Moves
     Moves { up, down }
 }
 
-// From `adjust`: whether there is room for the upper edge j to move up.
-fn room_up(map: HintMap, j: usize, by: Fixed) -> bool
-    requires { ⌜ (j < map .len) × (map .len ≤ 96) ⌝ }
-    ensures { λ r. ⌜ r ≡ roomUp map j by ⌝ }
+// From `adjust`: whether there is room for an upper edge to move up.
+fn room_up(above: Neighbour, high: Fixed, by: Fixed) -> bool
+    ensures { λ r. ⌜ r ≡ roomUp above high by ⌝ }
 {
-    let len = map.len;
-    if j + 1 < len {
-        let edge = map.edges[j];
-        let above = map.edges[j + 1];
-        let least = edge.ds_coord.add(by).add(Fixed::HALF);
-        return least.at_most(above.ds_coord);
+    match above {
+        Neighbour::Absent => true,
+        Neighbour::Edge(edge) => {
+            let least = high.add(by).add(Fixed::HALF);
+            least.at_most(edge.ds_coord)
+        }
     }
-    true
 }
 
-// From `adjust`: whether there is room for the lower edge i to move down.
-fn room_down(map: HintMap, i: usize, by: Fixed) -> bool
-    requires { ⌜ (i < map .len) × (map .len ≤ 96) ⌝ }
-    ensures { λ r. ⌜ r ≡ roomDown map i by ⌝ }
+// From `adjust`: whether there is room for a lower edge to move down.
+fn room_down(below: Neighbour, low: Fixed, by: Fixed) -> bool
+    ensures { λ r. ⌜ r ≡ roomDown below low by ⌝ }
 {
-    if 0 < i {
-        let edge = map.edges[i];
-        let below = map.edges[i - 1];
-        let most = edge.ds_coord.add(by).sub(Fixed::HALF);
-        return below.ds_coord.at_most(most);
+    match below {
+        Neighbour::Absent => true,
+        Neighbour::Edge(edge) => {
+            let most = low.add(by).sub(Fixed::HALF);
+            edge.ds_coord.at_most(most)
+        }
     }
-    true
 }
 
 // From `adjust`: the move that is made, by the room there is.
@@ -132,44 +131,21 @@ fn choose(up: bool, down: bool, moves: Moves) -> Choice
     }
 }
 
-// From `adjust`: whether a hint that fell short can be tried again. Only an unlocked edge above can make room for it.
-fn wants_note(map: HintMap, j: usize, short: bool) -> bool
-    requires { ⌜ (j < map .len) × (map .len ≤ 96) ⌝ }
-    ensures { λ r. ⌜ r ≡ wantsNote map j short ⌝ }
+// From `adjust`: what is noted. Only an unlocked edge above can make room for a hint that fell short.
+fn noted(above: Neighbour, short: bool, missing: Fixed) -> Note
+    ensures { λ r. ⌜ r ≡ noteOf above short missing ⌝ }
 {
-    if short {
-        let len = map.len;
-        if j + 1 < len {
-            let above = map.edges[j + 1];
-            return !above.is_locked();
+    match above {
+        Neighbour::Absent => Note::Settled,
+        Neighbour::Edge(edge) => {
+            if !short {
+                return Note::Settled;
+            }
+            if edge.is_locked() {
+                return Note::Settled;
+            }
+            Note::Missing(missing)
         }
-        return false;
-    }
-    false
-}
-
-// From `adjust`: what is done with the hint whose lower edge is i and whose upper edge is j.
-fn decide(map: HintMap, i: usize, j: usize) -> Decision
-    requires { ⌜ (i ≤ j) × ((j < map .len) × (map .len ≤ 96)) ⌝ }
-    ensures { λ r. ⌜ r ≡ decideOf map i j ⌝ }
-{
-    let low = map.edges[i];
-    let high = map.edges[j];
-    let moves = smallest(low.ds_coord, high.ds_coord);
-    let up = room_up(map, j, moves.up);
-    let down = room_down(map, i, moves.down);
-    let choice = choose(up, down, moves);
-    let by = choice.by;
-    if wants_note(map, j, choice.short) {
-        let missing = moves.up.sub(by);
-        return Decision {
-            by,
-            note: Note::Missing(missing),
-        };
-    }
-    Decision {
-        by,
-        note: Note::Settled,
     }
 }
 
@@ -180,214 +156,160 @@ fn moved(edge: Hint, by: Fixed) -> Hint
     edge.at_device(edge.ds_coord.add(by))
 }
 
-// From `adjust`: edge k of the map moved.
-fn move_edge(map: HintMap, k: usize, by: Fixed) -> HintMap
-    requires { ⌜ k < 96 ⌝ }
-    ensures { λ r. ⌜ r ≡ movedIn map k by ⌝ }
+// From `adjust`: an unlocked hint is moved, and noted where it fell short.
+fn settle(below: Neighbour, low: Hint, high: Hint, above: Neighbour) -> Aligned
+    ensures { λ r. ⌜ r ≡ settleOf below low high above ⌝ }
 {
-    let mut after = map;
-    let edge = after.edges[k];
-    after.edges[k] = moved(edge, by);
+    if low.is_locked() {
+        return Aligned {
+            low,
+            high,
+            note: Note::Settled,
+        };
+    }
+    let moves = smallest(low.ds_coord, high.ds_coord);
+    let up = room_up(above, high.ds_coord, moves.up);
+    let down = room_down(below, low.ds_coord, moves.down);
+    let choice = choose(up, down, moves);
+    let missing = moves.up.sub(choice.by);
+    let note = noted(above, choice.short, missing);
+    let low = moved(low, choice.by);
+    let high = moved(high, choice.by);
+    Aligned { low, high, note }
+}
+
+// From `adjust`: an edge with the scale of the line from it to the next.
+fn rescaled(below: Hint, edge: Hint) -> Hint
+    ensures { λ r. ⌜ r ≡ rescaledHint below edge ⌝ }
+{
+    if edge.cs_coord.same(below.cs_coord) {
+        return below;
+    }
+    let rise = edge.ds_coord.sub(below.ds_coord);
+    let mut after = below;
+    after.scale = rise.div(edge.cs_coord.sub(below.cs_coord));
     after
 }
 
-// From `adjust`: an edge with another scale.
-fn at_scale(edge: Hint, scale: Fixed) -> Hint
-    ensures { λ r. ⌜ r ≡ atScale edge scale ⌝ }
-{
-    let mut after = edge;
-    after.scale = scale;
-    after
-}
-
-// From `adjust`: the edge before k gets the scale of the line from it to edge k.
-fn rescale(map: HintMap, k: usize) -> HintMap
-    requires { ⌜ k < 96 ⌝ }
-    ensures { λ r. ⌜ r ≡ rescaleOf map k ⌝ }
+// The place before one, and the place after it. The first stays, and so does the last.
+fn previous(k: usize) -> usize
+    ensures { λ r. ⌜ r ≡ k - 1 ⌝ }
 {
     if 0 < k {
-        let edge = map.edges[k];
-        let below = map.edges[k - 1];
-        if edge.cs_coord.same(below.cs_coord) {
-            return map;
-        }
-        let rise = edge.ds_coord.sub(below.ds_coord);
-        let scale = rise.div(edge.cs_coord.sub(below.cs_coord));
-        let mut after = map;
-        after.edges[k - 1] = at_scale(below, scale);
-        return after;
+        return k - 1;
     }
-    map
+    0
 }
 
-// From `adjust`: the upper edge of the hint whose lower edge is i. Above a pair's lower edge there always is one.
-fn upper(map: HintMap, i: usize) -> usize
-    requires { ⌜ (i < map .len) × (map .len ≤ 96) ⌝ }
-    ensures { λ r. ⌜ r ≡ upperOf map i ⌝ }
+fn next(k: usize, len: usize) -> usize
+    requires { ⌜ k < 96 ⌝ }
+    ensures { λ r. ⌜ r ≡ nextPlace len k ⌝ }
 {
-    let edge = map.edges[i];
+    if k + 1 < len {
+        return k + 1;
+    }
+    k
+}
+
+// The edge beside a hint, where there is one.
+fn beside(there: bool, edge: Hint) -> Neighbour
+    ensures { λ r. ⌜ r ≡ besideBy there edge ⌝ }
+{
+    if there {
+        return Neighbour::Edge(edge);
+    }
+    Neighbour::Absent
+}
+
+// From `adjust`: the place of the upper edge of the hint whose lower edge is at i. Above a pair's lower edge there always is one.
+fn upper(edge: Hint, i: usize, len: usize) -> usize
+    requires { ⌜ i < 96 ⌝ }
+    ensures { λ r. ⌜ r ≡ upperBy (isPair edge) len i ⌝ }
+{
     if edge.is_pair() {
-        let len = map.len;
-        if i + 1 < len {
-            return i + 1;
-        }
-        return i;
+        return next(i, len);
     }
     i
 }
 
-// From `adjust`: a missing move is noted for the hint whose upper edge is j.
-fn add_note(notes: Notes, j: usize, note: Note) -> Notes
-    requires { ⌜ notes .count < 96 ⌝ }
-    ensures { λ r. ⌜ r ≡ notedOf notes j note ⌝ }
+// From `adjust`: the place of the lower edge of the hint whose upper edge is at j.
+fn lower(edge: Hint, j: usize) -> usize
+    ensures { λ r. ⌜ r ≡ lowerBy (isPair edge) j ⌝ }
 {
-    match note {
-        Note::Settled => notes,
-        Note::Missing(by) => {
-            let mut after = notes;
-            let k = after.count;
-            after.at[k] = j;
-            after.by[k] = by;
-            after.count = k + 1;
-            after
-        }
+    if edge.is_pair() {
+        return previous(j);
     }
+    j
 }
 
-// From `adjust`: both edges of a hint moved alike. A ghost has one.
-fn move_hint(map: HintMap, i: usize, j: usize, by: Fixed) -> HintMap
-    requires { ⌜ (i < 96) × (j < 96) ⌝ }
-    ensures { λ r. ⌜ r ≡ movedBoth map i j by ⌝ }
-{
-    let after = move_edge(map, i, by);
-    if i < j {
-        return move_edge(after, j, by);
-    }
-    after
-}
-
-// From `adjust`: the scales of the edges before a hint's edges.
-fn rescale_hint(map: HintMap, i: usize, j: usize) -> HintMap
-    requires { ⌜ (i < 96) × (j < 96) ⌝ }
-    ensures { λ r. ⌜ r ≡ rescaleBoth map i j ⌝ }
-{
-    let after = rescale(map, i);
-    if i < j {
-        return rescale(after, j);
-    }
-    after
-}
-
-// From `adjust`: an unlocked hint is moved, and noted where it fell short.
-fn settle(pass: Pass, i: usize, j: usize) -> Pass
-    requires { ⌜ (i ≤ j) × ((j < pass .map .len) × ((pass .map .len ≤ 96) × (pass .notes .count < 96))) ⌝ }
-    ensures { λ r. ⌜ r ≡ settleOf i j pass ⌝ }
-{
-    let map = pass.map;
-    let notes = pass.notes;
-    let edge = map.edges[i];
-    if edge.is_locked() {
-        return pass;
-    }
-    let decision = decide(map, i, j);
-    let note = decision.note;
-    let noted = add_note(notes, j, note);
-    let after = move_hint(map, i, j, decision.by);
-    Pass {
-        map: after,
-        notes: noted,
-    }
-}
-
-// From `adjust`: one turn of the first pass, over the hint whose edges are i and j.
-fn turn(pass: Pass, i: usize, j: usize) -> Pass
-    requires { ⌜ (i ≤ j) × ((j < pass .map .len) × ((pass .map .len ≤ 96) × (pass .notes .count < 96))) ⌝ }
-    ensures { λ r. ⌜ r ≡ turnOf i j pass ⌝ }
-{
-    let settled = settle(pass, i, j);
-    let map = settled.map;
-    let notes = settled.notes;
-    let after = rescale_hint(map, i, j);
-    Pass { map: after, notes }
-}
-
-// From `adjust`: the first pass, upward over the hints.
-fn first_pass(start: Pass) -> Pass
-    requires { ⌜ (start .map .len ≤ 96) × (start .notes .count ≤ 0) ⌝ }
-    ensures { λ r. ⌜ r ≡ firstPass start ⌝ }
-{
-    let len = start.map.len;
-    let mut pass = start;
-    let mut i: usize = 0;
-    while i < len {
-        let map = pass.map;
-        let j = upper(map, i);
-        pass = turn(pass, i, j);
-        i = j + 1;
-    }
-    pass
-}
-
-// From `adjust`: the hint whose upper edge is j, moved.
-fn lift_hint(map: HintMap, j: usize, by: Fixed) -> HintMap
-    requires { ⌜ j < 96 ⌝ }
-    ensures { λ r. ⌜ r ≡ liftBoth map j by ⌝ }
-{
-    let edge = map.edges[j];
-    let after = move_edge(map, j, by);
-    if 0 < j {
-        if edge.is_pair() {
-            return move_edge(after, j - 1, by);
-        }
-        return after;
-    }
-    after
-}
-
-// From `adjust`: a noted hint gets its missing move where there is room for it. Every note is of an edge of the map.
-fn retry(map: HintMap, j: usize, by: Fixed) -> HintMap
-    requires { ⌜ map .len ≤ 96 ⌝ }
-    ensures { λ r. ⌜ r ≡ retryOf map j by ⌝ }
-{
-    let len = map.len;
-    if j < len {
-        if room_up(map, j, by) {
-            return lift_hint(map, j, by);
-        }
-        return map;
-    }
-    map
-}
-
-// From `adjust`: the second pass, newest note first. Scales stay.
+// From `adjust`: the second pass, newest note first. Every note is of an edge of the map. Scales stay.
 fn second_pass(map: HintMap, notes: Notes) -> HintMap
     requires { ⌜ (map .len ≤ 96) × (notes .count ≤ 96) ⌝ }
     ensures { λ r. ⌜ r ≡ secondPass (notes .count) notes map ⌝ }
 {
+    let len = map.len;
     let mut after = map;
     let mut k = notes.count;
     while 0 < k {
         k -= 1;
         let j = notes.at[k];
         let by = notes.by[k];
-        after = retry(after, j, by);
+        if len <= j {
+            continue;
+        }
+        let high = after.edges[j];
+        let n = next(j, len);
+        let above = after.edges[n];
+        if !room_up(beside(j + 1 < len, above), high.ds_coord, by) {
+            continue;
+        }
+        let i = lower(high, j);
+        let low = after.edges[i];
+        after.edges[i] = moved(low, by);
+        after.edges[j] = moved(high, by);
     }
     after
 }
 
-// Ports `adjust`.
+// Ports `adjust`. The first pass goes upward over the hints.
 pub fn adjust(map: HintMap) -> HintMap
     requires { ⌜ map .len ≤ 96 ⌝ }
     ensures { λ r. ⌜ r ≡ adjustOf map ⌝ }
 {
     let zero = Fixed::ZERO;
-    let notes = Notes {
+    let mut notes = Notes {
         at: [0; 96],
         by: [zero; 96],
         count: 0,
     };
-    let pass = first_pass(Pass { map, notes });
-    let after = pass.map;
-    let noted = pass.notes;
-    second_pass(after, noted)
+    let len = map.len;
+    let mut after = map;
+    let mut i: usize = 0;
+    while i < len {
+        let low = after.edges[i];
+        let j = upper(low, i, len);
+        let high = after.edges[j];
+        let b = previous(i);
+        let below = after.edges[b];
+        let n = next(j, len);
+        let above = after.edges[n];
+        let aligned = settle(beside(0 < i, below), low, high, beside(j + 1 < len, above));
+        let bottom = aligned.low;
+        let top = aligned.high;
+        let note = aligned.note;
+        after.edges[b] = rescaled(below, bottom);
+        after.edges[i] = rescaled(bottom, top);
+        after.edges[j] = top;
+        i = j + 1;
+        match note {
+            Note::Settled => {}
+            Note::Missing(by) => {
+                let k = notes.count;
+                notes.at[k] = j;
+                notes.by[k] = by;
+                notes.count = k + 1;
+            }
+        }
+    }
+    second_pass(after, notes)
 }

@@ -1,7 +1,7 @@
 -- Every starred figure of 01 is what the definitions give: they are computed. Assumes nothing.
 use mathlib.Core.Path.{refl}
-use Rattle.adjust.specs.Adjust.{toNext, movesOf, roomUp, roomDown, choiceOf, wantsNote, decideOf, rescaleOf}
-use Rattle.adjust.specs.Pass.{upperOf, notedOf, movedBoth, rescaleBoth, settleOf, turnOf, passFrom, firstPass}
+use Rattle.adjust.specs.Adjust.{toNext, movesOf, roomUp, roomDown, choiceOf, noteOf, movedHint, settleOf, rescaledHint}
+use Rattle.adjust.specs.Pass.{nextPlace, upperOf, notedOf, turnOf, passFrom, firstPass}
 use Rattle.adjust.specs.Second.{liftBoth, retryOf, secondPass, adjustOf}
 use Rattle.build.specs.Build.{initialOf, savedIn, savedAll, builtOf}
 use Rattle.build.specs.Ghosts.{emBottom, emTop, emBoxed, uncovered, baselined}
@@ -19,5 +19,5 @@ use Rattle.zones.specs.Zones.{sift, bluesZones, kept, greatestFrom, nearer, nea
 use Rattle.figures.specs.Rows.{rows, AllHold}
 
 pub starred : AllHold rows
-unfolding toNext movesOf roomUp roomDown choiceOf wantsNote decideOf rescaleOf upperOf notedOf movedBoth rescaleBoth settleOf turnOf passFrom firstPass liftBoth retryOf secondPass adjustOf initialOf savedIn savedAll builtOf emBottom emTop emBoxed uncovered baselined readyOf lockedTurn freeTurn lockedTurns freeTurns addF subF negF absF twiceF mulF overZero quotientOf divF mulDivF roundF fractF halfF midpointF truncF minF maxF lowBits wrap32 nearest chosen enters bars tooHigh again putEdges settle insertIn leading backed line mapOf ahead behind Past Made shapeOf edgeOf setupOf maskOf isActive cleared sameBytes holds firstHolding bottomGoal topGoal moveOf lifted captureOf emBox clampedScale boostOf stateOf sift bluesZones kept greatestFrom nearer nearestFrom nearestOf movedFlat deviceFlat keptIn readIn
+unfolding toNext movesOf roomUp roomDown choiceOf noteOf movedHint settleOf rescaledHint nextPlace upperOf notedOf turnOf passFrom firstPass liftBoth retryOf secondPass adjustOf initialOf savedIn savedAll builtOf emBottom emTop emBoxed uncovered baselined readyOf lockedTurn freeTurn lockedTurns freeTurns addF subF negF absF twiceF mulF overZero quotientOf divF mulDivF roundF fractF halfF midpointF truncF minF maxF lowBits wrap32 nearest chosen enters bars tooHigh again putEdges settle insertIn leading backed line mapOf ahead behind Past Made shapeOf edgeOf setupOf maskOf isActive cleared sameBytes holds firstHolding bottomGoal topGoal moveOf lifted captureOf emBox clampedScale boostOf stateOf sift bluesZones kept greatestFrom nearer nearestFrom nearestOf movedFlat deviceFlat keptIn readIn
 starred = (refl, (refl, (refl, (refl, (refl, (refl, (refl, (refl, (refl, (refl, (refl, (refl, (refl, (refl, (refl, tt)))))))))))))))

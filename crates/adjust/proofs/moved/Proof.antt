@@ -1,5 +1,6 @@
 -- `moved` meets its contract. Assumes nothing.
 use borrow.Author.Needs.{needs}
+use Rattle.adjust.specs.Adjust.{movedHint}
 use Rattle.adjust.proofs.moved.Statement.{statement}
 use Rattle.adjust.proofs.moved.Tie as tie
 
@@ -10,6 +11,7 @@ at-device-requires : tie.Need-at-device-requires
 at-device-requires c κs = search needs
 
 returns : tie.Need-returns
+unfolding movedHint
 returns c = cc
 
 pub moved-spec : {M : Type 1} → statement M
