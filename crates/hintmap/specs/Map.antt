@@ -71,15 +71,6 @@ putTwoIn m at b t = putIn (putIn m at b) (at + 1) t
 abbrev pub reach : List Hint → Fixed → ℕ
 reach es h = leading (λ (e : Hint). atMostF (e .«cs_coord») h) es
 
--- from a place back over the edges that are above a height, to the first at the furthest
-abbrev pub backBy : Bool → ℕ → ℕ → ℕ
-backBy true before at = before
-backBy false before at = at
-
-unfoldable pub backed : List Hint → ℕ → Fixed → ℕ
-backed es zero h = 0
-backed es (suc i) h = backBy (lessF h (getD es (suc i) noHint .«cs_coord»)) (backed es i h) (suc i)
-
 -- (height − edge height)·scale + edge device height
 unfoldable pub line : Hint → Fixed → Fixed → Fixed
 line e s h = addF (mulF (subF h (e .«cs_coord»)) s) (e .«ds_coord»)
