@@ -16,7 +16,7 @@ use Rattle.hintmap.specs.Map.{leading, reach, countBy, mapOf, lineBy}
 use Rattle.hintmap.proofs.Near.{leading-within}
 
 -- the upward walk ends at an edge
-pub reach-below : (n : ℕ) (es : List Hint) (h : Fixed) → 0 < n → reach (drop 1 (take n es)) h < n
+reach-below : (n : ℕ) (es : List Hint) (h : Fixed) → 0 < n → reach (drop 1 (take n es)) h < n
 reach-below n es h p = omega (arith, leading-within (λ (e : Hint). atMostF (e .«cs_coord») h) (drop 1 (take n es)), length-drop 1 (take n es), length-take n es)
 
 -- the mapping by an array that has an edge

@@ -3,7 +3,7 @@ use fixed::Fixed;
 use stems::Hint;
 ghost use mathlib.Core.Path.{_≡_};
 ghost use Prim.Native.Nat.{_≤_};
-ghost use Rattle.hintmap.specs.Map.{newMap, clearedMap, invalidMap, validMap, view, line, mapOf};
+ghost use Rattle.hintmap.specs.Map.{newMap, invalidMap, validMap, view, line, mapOf};
 
 pub struct HintMap {
     pub edges: [Hint; 96],
@@ -31,16 +31,6 @@ impl HintMap {
             is_valid: false,
             scale,
         }
-    }
-
-    // Ports `HintMap::clear`: what the records hold stays, unread.
-    pub fn clear(self) -> HintMap
-        ensures { λ r. ⌜ r ≡ clearedMap self ⌝ }
-    {
-        let mut map = self;
-        map.len = 0;
-        map.is_valid = false;
-        map
     }
 
     // From `hint_mask`: the map is to be built anew, and keeps its edges until then.

@@ -16,7 +16,7 @@ use Rattle.hintmap.specs.declared.map.HintMap.{HintMap}
 use Rattle.stems.specs.Edge.{noHint}
 use Rattle.hintmap.specs.Map.{view, reach, mapOf, line, lineBy}
 use Rattle.hintmap.proofs.Near.{Asked, asked, held-long}
-use Rattle.hintmap.proofs.Walk.{reach-below, no-way-back, map-some}
+use Rattle.hintmap.proofs.Walk.{no-way-back, map-some}
 use Rattle.hintmap.proofs.map.HintMap.transform.Statement.{statement}
 use Rattle.hintmap.proofs.map.HintMap.transform.Tie as tie
 
