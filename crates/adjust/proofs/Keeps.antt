@@ -8,7 +8,7 @@ use lib.Dec.{ltb}
 use lib.ListN.{length, getD, set, length-map, List·getD-map}
 use lib.Seq.{map-set-same}
 use Rattle.fixed.specs.declared.Fixed.{Fixed}
-use Rattle.fixed.specs.Fixed.{sameF}
+use Rattle.fixed.specs.Fixed.{ZERO, sameF}
 use Rattle.stems.specs.declared.edge.Hint.{Hint}
 use Rattle.stems.specs.Edge.{noHint, isPair, atDevice}
 use Rattle.hintmap.specs.declared.map.HintMap.{HintMap}
@@ -17,7 +17,7 @@ use Rattle.hintmap.specs.Stems.{Stems, Alike, nil, cons}
 use Rattle.hintmap.proofs.Alike.{alike-take, stems-alike}
 use Rattle.adjust.specs.declared.Notes.{Notes}
 use Rattle.adjust.specs.declared.Neighbour.{Neighbour}
-use Rattle.adjust.specs.Adjust.{none, edgeAt, aboveOf, belowOf, roomUp, movedHint, settleBy, settleOf, atScale, rescaledBy, rescaledHint, withEdge}
+use Rattle.adjust.specs.Adjust.{edgeAt, aboveOf, belowOf, roomUp, movedHint, settleBy, settleOf, atScale, rescaledBy, rescaledHint, withEdge}
 use Rattle.adjust.specs.Pass.{Pass, upperOf, lowerBy, turnOf, passFrom, firstPass}
 use Rattle.adjust.specs.Second.{liftBoth, retryOf, secondPass, startOf, adjustOf}
 
@@ -34,7 +34,7 @@ module _ {B : Type 0} (f : Hint → B) (xs ys : List Hint) (p : map f ys ≡ map
 -- ---- what is kept
 -- an edge without its device height and its scale: kind, marks, stem number and character height
 abbrev pub still : Hint → Hint
-still e = atScale (atDevice e none) none
+still e = atScale (atDevice e ZERO) ZERO
 
 -- n is m but for the device heights and the scales of its edges
 pub record Kept (m n : HintMap) : Type 0 where
@@ -146,8 +146,8 @@ second-kept : (k : ℕ) (n : Notes) (m : HintMap) → Kept m (secondPass k n m)
 unfolding secondPass
 second-kept zero n m = kept-refl m
 second-kept (suc k) n m =
-    let r = retryOf m (getD (n .at) k 0) (getD (n .by) k none) in
-    kept-trans (retry-kept m (getD (n .at) k 0) (getD (n .by) k none)) (second-kept k n r)
+    let r = retryOf m (getD (n .at) k 0) (getD (n .by) k ZERO) in
+    kept-trans (retry-kept m (getD (n .at) k 0) (getD (n .by) k ZERO)) (second-kept k n r)
 
 -- ---- the second pass sets no scale
 abbrev pub scales : HintMap → List Fixed
@@ -170,7 +170,7 @@ unfolding secondPass retryOf
 second-scales zero n m = refl
 second-scales (suc k) n m =
     let j = getD (n .at) k 0 in
-    let by = getD (n .by) k none in
+    let by = getD (n .by) k ZERO in
     second-scales k n (retryOf m j by) ∙ cond-scales (ltb j (m .len) && roomUp (aboveOf m j) (edgeAt m j .«ds_coord») by) m (liftBoth m j by) m (lift-scales m j by) refl
 
 -- ---- the whole

@@ -5,6 +5,7 @@ use mathlib.Core.Logic.{inl, inr}
 use Prim.Native.Nat.{ℕ}
 use lib.ListN.{take}
 use Rattle.fixed.specs.declared.Fixed.{Fixed}
+use Rattle.fixed.specs.Fixed.{ZERO}
 use Rattle.stems.specs.declared.edge.StemHint.{StemHint}
 use Rattle.stems.specs.declared.edge.Kind.the-variants.{GhostBottom}
 use Rattle.stems.specs.declared.edge.Hint.{Hint}
@@ -23,7 +24,7 @@ use Rattle.hintmap.specs.Stems.{Made, Like}
 use Rattle.hintmap.proofs.Alike.{like-refl}
 use Rattle.hintmap.proofs.Made.{made-ghost, made-like, made-setup}
 use Rattle.build.specs.declared.place.Placed.{Placed}
-use Rattle.build.specs.Ghosts.{none, ghostAt, emBottom, emTop, emBoxed, uncovered, baselineBy, baselined}
+use Rattle.build.specs.Ghosts.{ghostAt, emBottom, emTop, emBoxed, uncovered, baselineBy, baselined}
 use Rattle.build.specs.Place.{readyBy, readyOf, putBy, lockedBy, lockedTurn, freeBy, freeTurn}
 
 -- ---- what is put in
@@ -65,9 +66,9 @@ pub made-box-top : (s : Fixed) → Made (chosen noHint (emTop s))
 unfolding chosen emTop
 made-box-top s = made-ghost (emTop s) (inr refl)
 
-pub made-baseline : (s : Fixed) → Made (chosen (ghostAt GhostBottom none none s) noHint)
+pub made-baseline : (s : Fixed) → Made (chosen (ghostAt GhostBottom ZERO ZERO s) noHint)
 unfolding chosen
-made-baseline s = made-ghost (ghostAt GhostBottom none none s) (inl refl)
+made-baseline s = made-ghost (ghostAt GhostBottom ZERO ZERO s) (inl refl)
 
 -- ---- what a turn comes to
 module _ (initial : HintMap) (p : Placed) (i : ℕ) (x : StemHint) (P : Placed → Type 0) (same : P p) where

@@ -1,9 +1,8 @@
 -- The two builds (01, "The map", Build).
 use mathlib.Core.Bool.{Bool, true, false, cond}
 use mathlib.Core.List.{List, [], _∷_}
-use lib.IntN.{pos}
 use lib.ListN.{getD, set}
-use Rattle.fixed.specs.Fixed.{fromBits}
+use Rattle.fixed.specs.Fixed.{ZERO}
 use Rattle.stems.specs.declared.mask.HintMask.{HintMask}
 use Rattle.stems.specs.declared.edge.StemHint.{StemHint}
 use Rattle.stems.specs.declared.edge.Hint.{Hint}
@@ -51,7 +50,7 @@ savedStem e s =
     }
 
 abbrev pub noStem : StemHint
-noStem = record { «is_used» = false; min = fromBits (pos 0); max = fromBits (pos 0); «ds_min» = fromBits (pos 0); «ds_max» = fromBits (pos 0) }
+noStem = record { «is_used» = false; min = ZERO; max = ZERO; «ds_min» = ZERO; «ds_max» = ZERO }
 
 abbrev pub savedBy : Bool → Hint → Stems → Stems
 savedBy true e ss = ss

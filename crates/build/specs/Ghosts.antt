@@ -13,12 +13,6 @@ use Rattle.stems.specs.Edge.{noHint}
 use Rattle.hintmap.specs.declared.map.HintMap.{HintMap}
 use Rattle.hintmap.specs.Insert.{chosen, insertIn}
 
-abbrev pub none : Fixed
-none = ZERO
-
-abbrev pub halfPixel : Fixed
-halfPixel = HALF
-
 -- a locked, synthetic edge
 abbrev pub ghostAt : Kind → Fixed → Fixed → Fixed → Hint
 ghostAt k h d s =
@@ -40,10 +34,10 @@ abbrev pub boxTop : Fixed
 boxTop = fromBits (whole (pos 880) .bits +ℤ pos 1)
 
 unfoldable pub emBottom : Fixed → Hint
-emBottom s = ghostAt GhostBottom boxBottom (subF (roundF (mulF boxBottom s)) halfPixel) s
+emBottom s = ghostAt GhostBottom boxBottom (subF (roundF (mulF boxBottom s)) HALF) s
 
 unfoldable pub emTop : Fixed → Hint
-emTop s = ghostAt GhostTop boxTop (addF (roundF (mulF boxTop s)) halfPixel) s
+emTop s = ghostAt GhostTop boxTop (addF (roundF (mulF boxTop s)) HALF) s
 
 abbrev pub boxedBy : HintMap → Bool → HintMap → HintMap
 boxedBy initial given m =
@@ -56,10 +50,10 @@ emBoxed false initial given m = m
 
 -- no edge, or the first above 0, or the last below it
 unfoldable pub uncovered : HintMap → Bool
-uncovered m = eqb (m .len) 0 || (lessF none (getD (m .edges) 0 noHint .«cs_coord») || lessF (getD (m .edges) (m .len - 1) noHint .«cs_coord») none)
+uncovered m = eqb (m .len) 0 || (lessF ZERO (getD (m .edges) 0 noHint .«cs_coord») || lessF (getD (m .edges) (m .len - 1) noHint .«cs_coord») ZERO)
 
 abbrev pub baselineBy : Bool → HintMap → HintMap
-baselineBy true m = insertIn m (chosen (ghostAt GhostBottom none none (m .scale)) noHint) m false
+baselineBy true m = insertIn m (chosen (ghostAt GhostBottom ZERO ZERO (m .scale)) noHint) m false
 baselineBy false m = m
 
 -- a bottom ghost at height 0 and device 0 where no edge covers the baseline

@@ -1,5 +1,6 @@
 // The edges that no stem has: the em box and the baseline.
 use fixed::Fixed;
+use hintmap::Edges;
 use hintmap::HintMap;
 use stems::Hint;
 use stems::Kind;
@@ -47,8 +48,10 @@ pub(crate) fn with_em_box(map: HintMap, wanted: bool, initial: HintMap, given: b
 {
     if wanted {
         let scale = map.scale;
-        let one = map.insert(em_bottom(scale), Hint::none(), initial, given);
-        return one.insert(Hint::none(), em_top(scale), initial, given);
+        let bottom = Edges::choose(em_bottom(scale), Hint::none());
+        let top = Edges::choose(Hint::none(), em_top(scale));
+        let one = map.insert(bottom, initial, given);
+        return one.insert(top, initial, given);
     }
     map
 }
@@ -78,7 +81,7 @@ pub(crate) fn with_baseline(map: HintMap) -> HintMap
     if is_uncovered(map) {
         let scale = map.scale;
         let baseline = ghost_at(Kind::GhostBottom, Fixed::ZERO, Fixed::ZERO, scale);
-        return map.insert(baseline, Hint::none(), map, false);
+        return map.insert(Edges::choose(baseline, Hint::none()), map, false);
     }
     map
 }

@@ -1,5 +1,6 @@
 // Placing the edges of stems.
 use fixed::Fixed;
+use hintmap::Edges;
 use hintmap::HintMap;
 use stems::Hint;
 use stems::HintMask;
@@ -70,7 +71,7 @@ fn locked_turn(
     let bottom = edges.bottom;
     let top = edges.top;
     Placed {
-        map: map.insert(bottom, top, initial, given),
+        map: map.insert(Edges::choose(bottom, top), initial, given),
         rest: rest.clear(i),
     }
 }
@@ -88,7 +89,7 @@ fn free_turn(p: Placed, scale: Fixed, stem: StemHint, i: usize, initial: HintMap
     let bottom = Hint::setup(stem, i as u8, scale, true);
     let top = Hint::setup(stem, i as u8, scale, false);
     Placed {
-        map: map.insert(bottom, top, initial, true),
+        map: map.insert(Edges::choose(bottom, top), initial, true),
         rest,
     }
 }

@@ -4,6 +4,7 @@ use crate::map_rows;
 use crate::tables;
 use crate::tables::Rows;
 use fixed::Fixed;
+use hintmap::Edges;
 use hintmap::HintMap;
 use stems::Hint;
 use stems::StemHint;
@@ -87,5 +88,5 @@ pub fn with_stem(
     }
     let bottom = Hint::setup(stem, index, map.scale, true);
     let top = Hint::setup(stem, index, map.scale, false);
-    map.insert(bottom, top, initial, given)
+    map.insert(Edges::choose(bottom, top), initial, given)
 }

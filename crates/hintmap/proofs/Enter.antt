@@ -2,9 +2,10 @@
 use mathlib.Core.Path.{_≡_, refl}
 use mathlib.Core.Bool.{Bool, true, false, not, _&&_}
 use mathlib.Core.List.{List}
-use Prim.Native.Nat.{ℕ, _<_}
+use Prim.Native.Nat.{ℕ, _+_, _≤_, _<_}
 use native.Mathlib.Omega.{arith}
 use lib.Dec.{ltb}
+use lib.ListN.{length}
 use borrow.Author.Tests.{ltb-true}
 use Rattle.fixed.specs.declared.Fixed.{Fixed}
 use Rattle.fixed.specs.Fixed.{lessF}
@@ -13,7 +14,7 @@ use Rattle.hintmap.specs.declared.map.HintMap.{HintMap}
 use Rattle.hintmap.specs.declared.insert.Edges.{Edges}
 use Rattle.hintmap.specs.declared.insert.Edges.the-variants.{One, Two}
 use Rattle.hintmap.specs.Map.{view}
-use Rattle.hintmap.specs.Insert.{firstOf, enters, again, placedBy, placedFor}
+use Rattle.hintmap.specs.Insert.{firstOf, edgesOf, enters, again, placedBy, placedFor}
 use Rattle.hintmap.proofs.Tests.{both}
 
 -- a pair leaves room for its top
@@ -25,6 +26,11 @@ pub enters-any : (n : ℕ) (e : Edges) → enters n e ≡ true → n < 96
 unfolding enters
 enters-any n (One e) h = ltb-true n 96 h
 enters-any n (Two b t) h = omega (arith, enters-two n b t h)
+
+-- so there is room for all of it
+pub enters-room : (n : ℕ) (e : Edges) → enters n e ≡ true → n + length (edgesOf e) ≤ 96
+enters-room n (One e) h = omega (arith, enters-any n (One e) h)
+enters-room n (Two b t) h = omega (arith, enters-two n b t h)
 
 -- placed again or not, it may enter as before
 again-enters : (n : ℕ) (b : Bool) (es : List Hint) (s₀ s : Fixed) (e : Edges) → enters n (placedBy b es s₀ s e) ≡ enters n e

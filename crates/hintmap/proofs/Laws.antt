@@ -1,56 +1,74 @@
--- A list whose elements from a place on have gone up by one, as `HintMap::put_at` makes it. Assumes nothing.
-use mathlib.Core.Path.{_≡_, sym, ap, _∙_}
+-- A list whose elements from a place on have gone up by some places, as `HintMap::put` makes it. Assumes nothing.
+use mathlib.Core.Path.{_≡_, refl, sym, ap, subst, _∙_}
 use mathlib.Core.List.{List, [], _∷_, _++_, append-assoc}
-use Prim.Native.Nat.{ℕ, zero, suc, _≤_, _<_, _-_}
+use Prim.Native.Nat.{ℕ, zero, suc, _+_, _≤_, _<_, _-_}
+use native.Mathlib.Numerals.{add-one}
 use native.Mathlib.Omega.{arith}
 use lib.ListN.{length, take, drop, getD, set, length-take, take-append-drop, List·getD-append}
 use lib.Seq.{drop-cons, take-suc, getD-take, set-at, take-take, length-take-le, drop-length}
 
 module _ {A : Type 0} where
-  -- the list es of which the elements from k up to n have gone up by one, with the one at k still in its place too
-  pub shifted : List A → ℕ → ℕ → List A
-  shifted es n k = take (suc k) es ++ (drop k (take n es) ++ drop (suc n) es)
+  -- the list es of which the elements from k up to n have gone up by g, with those from k on still in their places too
+  pub shifted : List A → ℕ → ℕ → ℕ → List A
+  shifted es n g k = take (k + g) es ++ (drop k (take n es) ++ drop (n + g) es)
 
-  pub shifted-none : (es : List A) (n : ℕ) → n < length es → shifted es n n ≡ es
+  pub shifted-none : (es : List A) (n g : ℕ) → n + g ≤ length es → shifted es n g n ≡ es
   unfolding shifted
-  shifted-none es n h =
+  shifted-none es n g h =
       let e : drop n (take n es) ≡ [] = (let l : length (take n es) ≡ n = length-take-le n es (omega arith) in ap (λ (k : ℕ). drop k (take n es)) (sym l) ∙ drop-length (take n es)) in
       rw (e, take-append-drop)
 
-  -- the element at k gives way to v
-  pub shifted-put : (es : List A) (n k : ℕ) (v d : A) → k ≤ n → n < length es →
-      set (shifted es n k) k v ≡ take k es ++ (v ∷ (drop k (take n es) ++ drop (suc n) es))
+  shifted-at : (es : List A) (n g k : ℕ) (d : A) → k < n → n + g ≤ length es → getD (shifted es n g (suc k)) k d ≡ getD es k d
   unfolding shifted
-  shifted-put es n k v d hk hn =
-      let l : length (take k es) ≡ k = length-take-le k es (omega arith) in
-      let h : k < length es = omega arith in
-      rw (take-suc es k d h, append-assoc) (set-at (take k es) _ _ v k l)
-
-  pub shifted-at : (es : List A) (n k : ℕ) (d : A) → k < n → n < length es → getD (shifted es n (suc k)) k d ≡ getD es k d
-  unfolding shifted
-  shifted-at es n k d hk hn =
-      let l : k < length (take (suc (suc k)) es) = simp length-take (omega arith) in
-      let h : k < suc (suc k) = omega arith in
+  shifted-at es n g k d hk hn =
+      let l : k < length (take (suc k + g) es) = simp length-take (omega arith) in
+      let h : k < suc k + g = omega arith in
       rw (List·getD-append, getD-take)
 
-  pub shifted-step : (es : List A) (n k : ℕ) (d : A) → k < n → n < length es →
-      set (shifted es n (suc k)) (suc k) (getD (shifted es n (suc k)) k d) ≡ shifted es n k
+  -- one more goes up
+  shifted-step : (es : List A) (n g k : ℕ) (d : A) → k < n → n + g ≤ length es →
+      set (shifted es n g (suc k)) (k + g) (getD (shifted es n g (suc k)) k d) ≡ shifted es n g k
   unfolding shifted
-  shifted-step es n k d hk hn =
-      let h : k < length es = omega arith in
+  shifted-step es n g k d hk hn =
+      let e : suc k + g ≡ suc (k + g) = omega arith in
+      let h : k + g < length es = omega arith in
       let h′ : k < length (take n es) = simp length-take (omega arith) in
-      rw (shifted-at es n k d hk hn, shifted-put es n (suc k) (getD es k d) d hk hn, take-suc es k d h, drop-cons (take n es) k d h′, getD-take n es k d hk)
-      (simp append-assoc)
+      let l : length (take (k + g) es) ≡ k + g = length-take-le (k + g) es (omega arith) in
+      rw (shifted-at es n g k d hk hn, e, take-suc es (k + g) d h, append-assoc, set-at (take (k + g) es) _ _ (getD es k d) (k + g) l, drop-cons (take n es) k d h′, getD-take n es k d hk)
 
   -- the same as the code has it, at k - 1
-  pub shifted-step-at : (es : List A) (n k : ℕ) (d : A) → 0 < k → k ≤ n → n < length es →
-      set (shifted es n k) k (getD (shifted es n k) (k - 1) d) ≡ shifted es n (k - 1)
-  shifted-step-at es n (suc k) d hp hk hn =
+  pub shifted-step-at : (es : List A) (n g k : ℕ) (d : A) → 0 < k → k ≤ n → n + g ≤ length es →
+      set (shifted es n g k) (k - 1 + g) (getD (shifted es n g k) (k - 1) d) ≡ shifted es n g (k - 1)
+  shifted-step-at es n g (suc k) d hp hk hn =
       let e : suc k - 1 ≡ k = omega arith in
-      rw e (shifted-step es n k d (omega arith) hn)
-  shifted-step-at es n zero d hp hk hn = absurd (omega arith)
+      rw e (shifted-step es n g k d (omega arith) hn)
+  shifted-step-at es n g zero d hp hk hn = absurd (omega arith)
 
-  -- the element at k gives way to v: what the list is then
-  pub shifted-putAt : (es : List A) (n k : ℕ) (v d : A) → k ≤ n → n < length es →
-      set (shifted es n k) k v ≡ (take k (take n es) ++ v ∷ drop k (take n es)) ++ drop (suc n) es
-  shifted-putAt es n k v d hk hn = rw (shifted-put es n k v d hk hn, take-take k n es hk) (simp append-assoc)
+  -- the two elements after xs give way
+  set-two : (xs r : List A) (y z b t : A) → set (set (xs ++ (y ∷ z ∷ r)) (length xs) b) (suc (length xs)) t ≡ xs ++ (b ∷ t ∷ r)
+  set-two [] r y z b t = refl
+  set-two (x ∷ xs) r y z b t = ap (λ (s : List A). x ∷ s) (set-two xs r y z b t)
+
+  -- the elements in the gap give way to what is put in
+  module _ (es : List A) (n k : ℕ) (d : A) (hk : k ≤ n) where
+    pub shifted-one : (v : A) → n + 1 ≤ length es →
+        set (shifted es n 1 k) k v ≡ (take k (take n es) ++ (v ∷ drop k (take n es))) ++ drop (n + 1) es
+    unfolding shifted
+    shifted-one v hn =
+        let l : length (take k es) ≡ k = length-take-le k es (omega arith) in
+        let h : k < length es = omega arith in
+        rw (add-one k, take-suc es k d h, take-take k n es hk, append-assoc, append-assoc) (set-at (take k es) _ _ v k l)
+
+    pub shifted-two : (b t : A) → n + 2 ≤ length es →
+        set (set (shifted es n 2 k) k b) (k + 1) t ≡ (take k (take n es) ++ (b ∷ t ∷ drop k (take n es))) ++ drop (n + 2) es
+    unfolding shifted
+    shifted-two b t hn =
+        let l : length (take k es) ≡ k = length-take-le k es (omega arith) in
+        let h : k < length es = omega arith in
+        let h′ : suc k < length es = omega arith in
+        let e : k + 2 ≡ suc (suc k) = omega arith in
+        let rest = drop k (take n es) ++ drop (n + 2) es in
+        rw (e, take-suc es (suc k) d h′, take-suc es k d h, take-take k n es hk, add-one k)
+        (simp append-assoc
+        (subst (λ (j : ℕ). set (set (take k es ++ (getD es k d ∷ getD es (suc k) d ∷ rest)) j b) (suc j) t ≡ take k es ++ (b ∷ t ∷ rest)) l
+        (set-two (take k es) rest (getD es k d) (getD es (suc k) d) b t)))

@@ -1,28 +1,34 @@
 -- What an insertion comes to: where a test fails, the same map; where all hold, the edges that were asked for, at their place. Assumes nothing.
 use mathlib.Core.Path.{_≡_, refl, ap, _∙_}
-use mathlib.Core.Bool.{Bool, true, false, not, cond, _&&_, and-false}
+use mathlib.Core.Bool.{Bool, true, false, not, _&&_}
 use mathlib.Core.List.{List, _++_}
-use Prim.Native.Nat.{ℕ}
+use Prim.Native.Nat.{ℕ, _≤_}
 use lib.ListN.{length, take, drop}
 use Rattle.fixed.specs.declared.Fixed.{Fixed}
 use Rattle.stems.specs.declared.edge.Hint.{Hint}
 use Rattle.hintmap.specs.declared.map.HintMap.{HintMap}
 use Rattle.hintmap.specs.declared.insert.Edges.{Edges}
 use Rattle.hintmap.specs.declared.insert.Edges.the-variants.{One, Two}
+use Rattle.hintmap.specs.declared.insert.Outcome.{Outcome}
+use Rattle.hintmap.specs.declared.insert.Outcome.the-variants as outcome
 use Rattle.hintmap.specs.Map.{view}
-use Rattle.hintmap.specs.Insert.{firstOf, edgesOf, enters, again, placedBy, charClear, belowClear, aboveClear, putEdges, settle, placeFor, placedFor, insertIn}
+use Rattle.hintmap.specs.Insert.{firstOf, edgesOf, enters, again, placedBy, charClear, belowClear, aboveClear, putEdges, placeFor, placedFor, onlyIf, outcomeOf, insertBy, insertIn}
 use Rattle.hintmap.specs.Stems.{Alike, nil, cons}
 use Rattle.hintmap.proofs.Alike.{like-device, alike-refl}
 use Rattle.hintmap.proofs.Near.{place-below}
 use Rattle.hintmap.proofs.Enter.{placed-enters}
 use Rattle.hintmap.proofs.View.{view-edges}
 
--- each test, where it fails, leaves the map as it was: of order and room, of the edge at the place in character height, of the edge before it and of it on the device
-pub record Dropped (m : HintMap) (e : Edges) (initial : HintMap) (given : Bool) : Type 0 where
-  pub entry : enters (m .len) e ≡ false → insertIn m e initial given ≡ m
-  pub character : charClear (drop (placeFor m e) (view m)) e ≡ false → insertIn m e initial given ≡ m
-  pub below : belowClear (view m) (placeFor m e) (placedFor m e initial given) ≡ false → insertIn m e initial given ≡ m
-  pub above : aboveClear (drop (placeFor m e) (view m)) (placedFor m e initial given) ≡ false → insertIn m e initial given ≡ m
+-- each test, where it fails, brings about P: of order and room, of the edge at the place in character height, of the edge before it and of it on the device
+pub record Fails (m : HintMap) (e : Edges) (initial : HintMap) (given : Bool) (P : Type 0) : Type 0 where
+  pub entry : enters (m .len) e ≡ false → P
+  pub character : charClear (drop (placeFor m e) (view m)) e ≡ false → P
+  pub below : belowClear (view m) (placeFor m e) (placedFor m e initial given) ≡ false → P
+  pub above : aboveClear (drop (placeFor m e) (view m)) (placedFor m e initial given) ≡ false → P
+
+-- it leaves the map as it was
+abbrev pub Dropped : HintMap → Edges → HintMap → Bool → Type 0
+Dropped m e initial given = Fails m e initial given (insertIn m e initial given ≡ m)
 
 -- each test holds
 pub record Clear (m : HintMap) (e : Edges) (initial : HintMap) (given : Bool) : Type 0 where
@@ -31,6 +37,11 @@ pub record Clear (m : HintMap) (e : Edges) (initial : HintMap) (given : Bool) : 
   pub below : belowClear (view m) (placeFor m e) (placedFor m e initial given) ≡ true
   pub above : aboveClear (drop (placeFor m e) (view m)) (placedFor m e initial given) ≡ true
 
+-- the edges of an outcome may be put at its place
+abbrev pub Fits : HintMap → Outcome → Type 0
+Fits m (outcome.Enters at e) = (at ≤ m .len) × (enters (m .len) e ≡ true)
+Fits m outcome.Dropped = Unit {0}
+
 -- placed again or not, it differs on the device only
 again-alike : (b : Bool) (es : List Hint) (s₀ s : Fixed) (e : Edges) → Alike (edgesOf e) (edgesOf (placedBy b es s₀ s e))
 unfolding again
@@ -38,9 +49,9 @@ again-alike true es s₀ s (One e) = cons (like-device e _) nil
 again-alike true es s₀ s (Two b t) = cons (like-device b _) (cons (like-device t _) nil)
 again-alike false es s₀ s e = alike-refl (edgesOf e)
 
-either : (b : Bool) (m : HintMap) → cond b m m ≡ m
-either true m = refl
-either false m = refl
+either : (b : Bool) → onlyIf b outcome.Dropped ≡ outcome.Dropped
+either true = refl
+either false = refl
 
 module _ (m : HintMap) (e : Edges) (initial : HintMap) (given : Bool) where
   abbrev at : ℕ
@@ -49,38 +60,63 @@ module _ (m : HintMap) (e : Edges) (initial : HintMap) (given : Bool) where
   abbrev p : Edges
   p = placedFor m e initial given
 
-  -- what is not entered is dropped
-  pub dropped : Dropped m e initial given
-  unfolding insertIn settle
-  dropped =
+  -- a test that fails drops the edges
+  pub drops : Fails m e initial given (outcomeOf m e initial given ≡ outcome.Dropped)
+  unfolding outcomeOf
+  drops =
       record {
         entry = λ t. rw t;
-        character = λ t. rw (t, and-false (enters (m .len) e));
-        below = λ t. rw t (either (enters (m .len) e && charClear (drop at (view m)) e) m);
-        above = λ t. rw (t, and-false (belowClear (view m) at p)) (either (enters (m .len) e && charClear (drop at (view m)) e) m);
+        character = λ t. rw t (either (enters (m .len) e));
+        below = λ t. rw (t, either (charClear (drop at (view m)) e)) (either (enters (m .len) e));
+        above = λ t. rw (t, either (belowClear (view m) at p), either (charClear (drop at (view m)) e)) (either (enters (m .len) e));
       }
 
+  -- what is not entered leaves the map
+  pub dropped : Dropped m e initial given
+  unfolding insertIn
+  dropped =
+      record {
+        entry = λ t. rw (drops .entry t);
+        character = λ t. rw (drops .character t);
+        below = λ t. rw (drops .below t);
+        above = λ t. rw (drops .above t);
+      }
+
+  -- where all hold, the edges enter
+  pub passed : Clear m e initial given → outcomeOf m e initial given ≡ outcome.Enters at p
+  unfolding outcomeOf
+  passed c = rw (c .entry, c .character, c .below, c .above)
+
   inserted : Clear m e initial given → insertIn m e initial given ≡ putEdges m at p
-  unfolding insertIn settle
-  inserted c = rw (c .entry, c .character, c .below, c .above)
+  unfolding insertIn
+  inserted c = rw (passed c)
 
   -- the edges that are put in have the kinds, stem numbers and character heights of those asked for
   pub placed-same : Alike (edgesOf e) (edgesOf p)
   placed-same = again-alike (not (firstOf e .locked) && given) (view initial) (initial .scale) (m .scale) e
 
-  -- what holds of the map, and of the map with the edges put in, holds after the insertion
-  pub by-outcome : (P : HintMap → Type 0) → P m → (Clear m e initial given → P (putEdges m at p)) → P (insertIn m e initial given)
-  unfolding insertIn settle
-  by-outcome P same put =
+  -- what holds of edges that are dropped, and of those that enter by all tests, holds of the outcome
+  cases : (Q : Outcome → Type 0) → Q outcome.Dropped → (Clear m e initial given → Q (outcome.Enters at p)) → Q (outcomeOf m e initial given)
+  unfolding outcomeOf
+  cases Q same put =
       go (enters (m .len) e) refl (charClear (drop at (view m)) e) refl (belowClear (view m) at p) refl (aboveClear (drop at (view m)) p) refl
     where
       go : (a : Bool) → enters (m .len) e ≡ a → (b : Bool) → charClear (drop at (view m)) e ≡ b → (c : Bool) → belowClear (view m) at p ≡ c →
-          (d : Bool) → aboveClear (drop at (view m)) p ≡ d → P (cond (a && b) (cond (c && d) (putEdges m at p) m) m)
+          (d : Bool) → aboveClear (drop at (view m)) p ≡ d → Q (onlyIf a (onlyIf b (onlyIf c (onlyIf d (outcome.Enters at p)))))
       go true f true g true h true k = put (record { entry = f; character = g; below = h; above = k })
       go true f true g true h false k = same
       go true f true g false h d k = same
       go true f false g c h d k = same
       go false f b g c h d k = same
+
+  -- what holds of the map, and of the map with the edges put in, holds after the insertion
+  pub by-outcome : (P : HintMap → Type 0) → P m → (Clear m e initial given → P (putEdges m at p)) → P (insertIn m e initial given)
+  unfolding insertIn
+  by-outcome P same put = cases (λ (o : Outcome). P (insertBy o m)) same put
+
+  -- what enters has its place in the map, and room
+  pub outcome-fits : Fits m (outcomeOf m e initial given)
+  outcome-fits = cases (Fits m) tt (λ c. (place-below m _, placed-enters m e initial given ∙ c .entry))
 
   module _ (long : length (m .edges) ≡ 96) where
     -- the edges of the map with those put in

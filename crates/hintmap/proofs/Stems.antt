@@ -16,7 +16,7 @@ use Rattle.hintmap.specs.declared.map.HintMap.{HintMap}
 use Rattle.hintmap.specs.declared.insert.Edges.{Edges}
 use Rattle.hintmap.specs.declared.insert.Edges.the-variants.{One, Two}
 use Rattle.stems.specs.Edge.{noHint, isPairTop, pairTopK}
-use Rattle.hintmap.specs.Map.{newMap, clearedMap, invalidMap, validMap, view, leading, placeOf, countBy, ahead}
+use Rattle.hintmap.specs.Map.{newMap, invalidMap, validMap, view, leading, placeOf, countBy, ahead}
 use Rattle.hintmap.specs.Insert.{firstOf, edgesOf, enters, bars, charClear, putEdges, placeFor, placedFor, insertIn}
 use Rattle.hintmap.specs.Stems.{height, Past, Stems, none, one, two, Made, Alike}
 use Rattle.hintmap.proofs.Tests.{both, neither}
@@ -111,10 +111,7 @@ pub record Good (m : HintMap) : Type 0 where
 pub new-good : (s : Fixed) → Good (newMap s)
 new-good s = record { within = omega arith; long = length-replicate 96 noHint; stems = none }
 
--- it stays so when it is emptied or made invalid
-pub cleared-good : (m : HintMap) → Good m → Good (clearedMap m)
-cleared-good m g = record { within = omega arith; long = g .long; stems = none }
-
+-- it stays so when it is made invalid or valid
 pub invalid-good : (m : HintMap) → Good m → Good (invalidMap m)
 invalid-good m g = record { within = g .within; long = g .long; stems = g .stems }
 

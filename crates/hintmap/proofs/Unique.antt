@@ -5,8 +5,9 @@ use contract.Lifetimes.{Lfts}
 use Rattle.fixed.specs.declared.Fixed.{Fixed}
 use Rattle.stems.specs.declared.edge.Hint.{Hint}
 use Rattle.hintmap.specs.declared.map.HintMap.{HintMap}
+use Rattle.hintmap.specs.declared.insert.Edges.{Edges}
+use Rattle.hintmap.proofs.insert.Edges.choose.Reads as choose-reads
 use Rattle.hintmap.proofs.map.HintMap.new.Reads as new-reads
-use Rattle.hintmap.proofs.map.HintMap.clear.Reads as clear-reads
 use Rattle.hintmap.proofs.map.HintMap.invalidate.Reads as invalidate-reads
 use Rattle.hintmap.proofs.map.HintMap.validate.Reads as validate-reads
 use Rattle.hintmap.proofs.map.HintMap.transform.Reads as transform-reads
@@ -17,20 +18,21 @@ module _ (κs : Lfts 0) (r r′ : HintMap) where
   new-unique s p q = p ∙ sym q
 
   module _ (m : HintMap) where
-    pub clear-unique : clear-reads.Post κs (m, tt) r (m, tt) → clear-reads.Post κs (m, tt) r′ (m, tt) → r ≡ r′
-    clear-unique p q = p ∙ sym q
-
     pub invalidate-unique : invalidate-reads.Post κs (m, tt) r (m, tt) → invalidate-reads.Post κs (m, tt) r′ (m, tt) → r ≡ r′
     invalidate-unique p q = p ∙ sym q
 
     pub validate-unique : validate-reads.Post κs (m, tt) r (m, tt) → validate-reads.Post κs (m, tt) r′ (m, tt) → r ≡ r′
     validate-unique p q = p ∙ sym q
 
-    pub insert-unique : (b t : Hint) (i : HintMap) (g : Bool) →
-        insert-reads.Post κs (m, (b, (t, (i, (g, tt))))) r (m, (b, (t, (i, (g, tt))))) →
-        insert-reads.Post κs (m, (b, (t, (i, (g, tt))))) r′ (m, (b, (t, (i, (g, tt))))) → r ≡ r′
-    insert-unique b t i g p q = p ∙ sym q
+    pub insert-unique : (e : Edges) (i : HintMap) (g : Bool) →
+        insert-reads.Post κs (m, (e, (i, (g, tt)))) r (m, (e, (i, (g, tt)))) →
+        insert-reads.Post κs (m, (e, (i, (g, tt)))) r′ (m, (e, (i, (g, tt)))) → r ≡ r′
+    insert-unique e i g p q = p ∙ sym q
 
 module _ (κs : Lfts 0) (m : HintMap) (h : Fixed) (r r′ : Fixed) where
   pub transform-unique : transform-reads.Post κs (m, (h, tt)) r (m, (h, tt)) → transform-reads.Post κs (m, (h, tt)) r′ (m, (h, tt)) → r ≡ r′
   transform-unique p q = p ∙ sym q
+
+module _ (κs : Lfts 0) (b t : Hint) (r r′ : Edges) where
+  pub choose-unique : choose-reads.Post κs (b, (t, tt)) r (b, (t, tt)) → choose-reads.Post κs (b, (t, tt)) r′ (b, (t, tt)) → r ≡ r′
+  choose-unique p q = p ∙ sym q

@@ -1,5 +1,5 @@
 -- What an insertion is (01, "The map", first paragraph).
-use mathlib.Core.Bool.{Bool, true, false, not, cond, _&&_, _||_}
+use mathlib.Core.Bool.{Bool, true, false, not, _&&_, _||_}
 use mathlib.Core.List.{List, [], _∷_}
 use Prim.Native.Nat.{ℕ}
 use lib.ListN.{drop}
@@ -10,8 +10,10 @@ use Rattle.stems.specs.declared.edge.Hint.{Hint}
 use Rattle.hintmap.specs.declared.map.HintMap.{HintMap}
 use Rattle.hintmap.specs.declared.insert.Edges.{Edges}
 use Rattle.hintmap.specs.declared.insert.Edges.the-variants.{One, Two}
+use Rattle.hintmap.specs.declared.insert.Outcome.{Outcome}
+use Rattle.hintmap.specs.declared.insert.Outcome.the-variants.{Enters, Dropped}
 use Rattle.stems.specs.Edge.{isValid, isPairTop, atDevice}
-use Rattle.hintmap.specs.Map.{view, placeOf, putIn, putTwoIn, mapOf, ahead, behind}
+use Rattle.hintmap.specs.Map.{view, placeOf, putIn, mapOf, ahead, behind}
 
 abbrev pub chosenBy : Bool → Bool → Hint → Hint → Edges
 chosenBy false v b t = One t
@@ -50,17 +52,23 @@ tooHigh x (Two b t) = lessF (x .«ds_coord») (t .«ds_coord») || lessF (x .«d
 abbrev pub under : Hint → Edges → Bool
 under x e = lessF (firstOf e .«ds_coord») (x .«ds_coord»)
 
--- a pair around a device height
-abbrev pub around : Hint → Hint → Fixed → Fixed → Edges
-around b t mid w = Two (atDevice b (subF mid w)) (atDevice t (addF mid w))
+-- the height that the initial map is asked for: a single edge's, or a pair's midpoint
+abbrev pub middleOf : Edges → Fixed
+middleOf (One e) = e .«cs_coord»
+middleOf (Two b t) = midpointF (b .«cs_coord») (t .«cs_coord»)
 
--- placed again by the edges and the scale of the initial map: a single edge where that maps it, a pair around its mapped midpoint
+-- a pair, plus and minus a width from a device height
+abbrev pub plusMinus : Hint → Hint → Fixed → Fixed → Edges
+plusMinus b t d w = Two (atDevice b (subF d w)) (atDevice t (addF d w))
+
+-- placed by a device height: a single edge there, a pair around it
+abbrev pub around : Fixed → Fixed → Edges → Edges
+around d s (One e) = One (atDevice e d)
+around d s (Two b t) = plusMinus b t d (mulF (halfF (subF (t .«cs_coord») (b .«cs_coord»))) s)
+
+-- placed again by the edges and the scale of the initial map
 unfoldable pub again : List Hint → Fixed → Fixed → Edges → Edges
-again es s₀ s (One e) = One (atDevice e (mapOf es s₀ (e .«cs_coord»)))
-again es s₀ s (Two b t) =
-    around b t
-    (mapOf es s₀ (midpointF (b .«cs_coord») (t .«cs_coord»)))
-    (mulF (halfF (subF (t .«cs_coord») (b .«cs_coord»))) s)
+again es s₀ s e = around (mapOf es s₀ (middleOf e)) s e
 
 abbrev pub placedBy : Bool → List Hint → Fixed → Fixed → Edges → Edges
 placedBy true es s₀ s e = again es s₀ s e
@@ -76,13 +84,9 @@ aboveClear es e = ahead (λ (x : Hint). tooHigh x e) es
 abbrev pub belowClear : List Hint → ℕ → Edges → Bool
 belowClear es at e = behind (λ (x : Hint). under x e) es at
 
+-- put at a place of a map
 unfoldable pub putEdges : HintMap → ℕ → Edges → HintMap
-putEdges m at (One e) = putIn m at e
-putEdges m at (Two b t) = putTwoIn m at b t
-
--- put in, or dropped for a neighbour on the device
-unfoldable pub settle : HintMap → ℕ → Edges → HintMap
-settle m at e = cond (belowClear (view m) at e && aboveClear (drop at (view m)) e) (putEdges m at e) m
+putEdges m at e = putIn m at (edgesOf e)
 
 -- the place of the edges in a map
 abbrev pub placeFor : HintMap → Edges → ℕ
@@ -93,10 +97,24 @@ abbrev pub placedFor : HintMap → Edges → HintMap → Bool → Edges
 placedFor m e initial given =
     placedBy (not (firstOf e .locked) && given) (view initial) (initial .scale) (m .scale) e
 
+-- a test that does not hold drops the edges, whatever comes of those after it
+abbrev pub onlyIf : Bool → Outcome → Outcome
+onlyIf true o = o
+onlyIf false o = Dropped
+
+-- what an insertion comes to: the tests in their order, and the edges at their place where all hold
+unfoldable pub outcomeOf : HintMap → Edges → HintMap → Bool → Outcome
+outcomeOf m e initial given =
+    onlyIf (enters (m .len) e)
+    (onlyIf (charClear (drop (placeFor m e) (view m)) e)
+    (onlyIf (belowClear (view m) (placeFor m e) (placedFor m e initial given))
+    (onlyIf (aboveClear (drop (placeFor m e) (view m)) (placedFor m e initial given))
+    (Enters (placeFor m e) (placedFor m e initial given)))))
+
+abbrev pub insertBy : Outcome → HintMap → HintMap
+insertBy (Enters at e) m = putEdges m at e
+insertBy Dropped m = m
+
 -- the whole
 unfoldable pub insertIn : HintMap → Edges → HintMap → Bool → HintMap
-insertIn m e initial given =
-    cond
-    (enters (m .len) e && charClear (drop (placeFor m e) (view m)) e)
-    (settle m (placeFor m e) (placedFor m e initial given))
-    m
+insertIn m e initial given = insertBy (outcomeOf m e initial given) m

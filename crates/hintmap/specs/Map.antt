@@ -2,7 +2,7 @@
 use mathlib.Core.Bool.{Bool, true, false, not, _&&_}
 use mathlib.Core.List.{List, [], _∷_, _++_}
 use Prim.Native.Nat.{ℕ, zero, suc, _+_}
-use lib.ListN.{take, drop, getD, replicate}
+use lib.ListN.{length, take, drop, getD, replicate}
 use lib.Dec.{eqb}
 use Rattle.fixed.specs.declared.Fixed.{Fixed}
 use Rattle.fixed.specs.Fixed.{addF, subF, mulF, lessF, atMostF}
@@ -13,10 +13,6 @@ use Rattle.stems.specs.Edge.{noHint}
 -- a map with no edges
 abbrev pub newMap : Fixed → HintMap
 newMap s = record { edges = replicate 96 noHint; len = 0; «is_valid» = false; scale = s }
-
--- the map with no edges, whatever its records hold
-abbrev pub clearedMap : HintMap → HintMap
-clearedMap m = record { edges = m .edges; len = 0; «is_valid» = false; scale = m .scale }
 
 -- the map that is to be built anew
 abbrev pub invalidMap : HintMap → HintMap
@@ -44,41 +40,25 @@ leading f (e ∷ es) = countBy (f e) (leading f es)
 abbrev pub placeOf : List Hint → Fixed → ℕ
 placeOf es h = leading (λ (e : Hint). lessF (e .«cs_coord») h) es
 
--- an edge put at a place of a list
-abbrev pub putAt : List Hint → ℕ → Hint → List Hint
-putAt es at h = take at es ++ h ∷ drop at es
+-- edges put at a place of a list
+abbrev pub putAt : List Hint → ℕ → List Hint → List Hint
+putAt es at new = take at es ++ (new ++ drop at es)
 
--- an edge put at a place of a map: the edges from there on go up by one, and the records past them stay
-abbrev pub putIn : HintMap → ℕ → Hint → HintMap
-putIn m at h =
+-- edges put at a place of a map: those from there on go up, and the records past them stay
+abbrev pub putIn : HintMap → ℕ → List Hint → HintMap
+putIn m at new =
     record {
-      edges = putAt (view m) at h ++ drop (suc (m .len)) (m .edges);
-      len = m .len + 1;
+      edges = putAt (view m) at new ++ drop (m .len + length new) (m .edges);
+      len = m .len + length new;
       «is_valid» = m .«is_valid»;
       scale = m .scale;
     }
-
--- a pair put at a place of a list, and of a map
-abbrev pub putTwo : List Hint → ℕ → Hint → Hint → List Hint
-putTwo es at b t = take at es ++ b ∷ t ∷ drop at es
-
-abbrev pub putTwoIn : HintMap → ℕ → Hint → Hint → HintMap
-putTwoIn m at b t = putIn (putIn m at b) (at + 1) t
 
 -- ---- mapping a height
 
 -- how many edges at the front are at or below a height
 abbrev pub reach : List Hint → Fixed → ℕ
 reach es h = leading (λ (e : Hint). atMostF (e .«cs_coord») h) es
-
--- from a place back over the edges that are above a height, to the first at the furthest
-abbrev pub backBy : Bool → ℕ → ℕ → ℕ
-backBy true before at = before
-backBy false before at = at
-
-unfoldable pub backed : List Hint → ℕ → Fixed → ℕ
-backed es zero h = 0
-backed es (suc i) h = backBy (lessF h (getD es (suc i) noHint .«cs_coord»)) (backed es i h) (suc i)
 
 -- (height − edge height)·scale + edge device height
 unfoldable pub line : Hint → Fixed → Fixed → Fixed

@@ -4,10 +4,9 @@ use fixed::Fixed;
 use stems::Hint;
 ghost use mathlib.Core.Path.{_≡_};
 ghost use mathlib.Core.Bool.{true, not, _&&_};
-ghost use Prim.Native.Nat.{_+_, _<_, _≤_};
-ghost use lib.ListN.{drop};
-ghost use Rattle.hintmap.specs.Map.{view, placeOf, putIn, putTwoIn};
-ghost use Rattle.hintmap.specs.Insert.{firstOf, chosen, enters, bars, tooHigh, under, again, placedBy, charClear, aboveClear, belowClear, settle, insertIn};
+ghost use Prim.Native.Nat.{_≤_};
+ghost use lib.ListN.{length};
+ghost use Rattle.hintmap.specs.Insert.{chosen, firstOf, edgesOf, enters, bars, tooHigh, under, middleOf, around, putEdges, outcomeOf, insertIn};
 
 // What is put in: one edge, or the two of a pair.
 pub enum Edges {
@@ -15,26 +14,41 @@ pub enum Edges {
     Two(Hint, Hint),
 }
 
-// From `insert`: the edges of a stem that are valid. With neither, the top one.
-fn choose(bottom: Hint, top: Hint) -> Edges
-    ensures { λ r. ⌜ r ≡ chosen bottom top ⌝ }
-{
-    if !bottom.is_valid() {
-        return Edges::One(top);
-    }
-    if !top.is_valid() {
-        return Edges::One(bottom);
-    }
-    Edges::Two(bottom, top)
+// What an insertion comes to: the edges enter at a place, as they are then placed, or they are dropped.
+pub enum Outcome {
+    Enters(usize, Edges),
+    Dropped,
 }
 
 impl Edges {
+    // From `insert`: the edges of a stem that are valid. With neither, the top one.
+    pub fn choose(bottom: Hint, top: Hint) -> Edges
+        ensures { λ r. ⌜ r ≡ chosen bottom top ⌝ }
+    {
+        if !bottom.is_valid() {
+            return Edges::One(top);
+        }
+        if !top.is_valid() {
+            return Edges::One(bottom);
+        }
+        Edges::Two(bottom, top)
+    }
+
     fn first(self) -> Hint
         ensures { λ r. ⌜ r ≡ firstOf self ⌝ }
     {
         match self {
             Edges::One(e) => e,
             Edges::Two(b, _) => b,
+        }
+    }
+
+    fn count(self) -> usize
+        ensures { λ r. ⌜ r ≡ length (edgesOf self) ⌝ }
+    {
+        match self {
+            Edges::One(_) => 1,
+            Edges::Two(_, _) => 2,
         }
     }
 
@@ -99,151 +113,118 @@ impl Edges {
         f.ds_coord.less(x.ds_coord)
     }
 
-    // The edges, placed by the initial map: a single one where that maps it, a pair around its mapped midpoint.
-    fn place_again(self, m: HintMap, scale: Fixed) -> Edges
-        requires { ⌜ m .len ≤ 96 ⌝ }
-        ensures { λ r. ⌜ r ≡ again (view m) (m .scale) scale self ⌝ }
-    {
-        match self {
-            Edges::One(e) => Edges::One(e.at_device(m.transform(e.cs_coord))),
-            Edges::Two(b, t) => {
-                let mid = m.transform(b.cs_coord.midpoint(t.cs_coord));
-                let w = t.cs_coord.sub(b.cs_coord).half().mul(scale);
-                Edges::Two(b.at_device(mid.sub(w)), t.at_device(mid.add(w)))
-            }
-        }
-    }
-
-    // The same where an initial map is given and the first edge is not locked.
-    fn placed(self, m: HintMap, given: bool, scale: Fixed) -> Edges
-        requires { ⌜ m .len ≤ 96 ⌝ }
-        ensures { λ r. ⌜ r ≡ placedBy (not (firstOf self .locked) && given) (view m) (m .scale) scale self ⌝ }
+    // Whether they are placed again: an initial map is given, and the first is not locked.
+    fn is_free(self, given: bool) -> bool
+        ensures { λ r. ⌜ r ≡ (not (firstOf self .locked) && given) ⌝ }
     {
         let f = self.first();
         if f.is_locked() {
-            return self;
+            return false;
         }
-        if given {
-            return self.place_again(m, scale);
+        given
+    }
+
+    // The height that the initial map is asked for.
+    fn middle(self) -> Fixed
+        ensures { λ r. ⌜ r ≡ middleOf self ⌝ }
+    {
+        match self {
+            Edges::One(e) => e.cs_coord,
+            Edges::Two(b, t) => b.cs_coord.midpoint(t.cs_coord),
         }
-        self
+    }
+
+    // Placed by a device height: a single edge there, a pair around it.
+    fn around(self, device: Fixed, scale: Fixed) -> Edges
+        ensures { λ r. ⌜ r ≡ around device scale self ⌝ }
+    {
+        match self {
+            Edges::One(e) => Edges::One(e.at_device(device)),
+            Edges::Two(b, t) => {
+                let w = t.cs_coord.sub(b.cs_coord).half().mul(scale);
+                Edges::Two(b.at_device(device.sub(w)), t.at_device(device.add(w)))
+            }
+        }
     }
 }
 
 impl HintMap {
-    // From `insert`: the index of the first edge that is not under a height, or the number of edges.
-    fn place(self, height: Fixed) -> usize
-        requires { ⌜ self .len ≤ 96 ⌝ }
-        ensures { λ r. ⌜ r ≡ placeOf (view self) height ⌝ }
+    // From `insert`: the place is before the first edge that is not under the edges, and the tests are of the edge there and of the one before.
+    fn outcome(self, e: Edges, initial: HintMap, given: bool) -> Outcome
+        requires { ⌜ (self .len ≤ 96) × (initial .len ≤ 96) ⌝ }
+        ensures { λ r. ⌜ r ≡ outcomeOf self e initial given ⌝ }
     {
         let len = self.len;
-        let mut i: usize = 0;
-        while i < len {
-            let e = self.edges[i];
-            if !e.cs_coord.less(height) {
-                return i;
+        if !e.may_enter(len) {
+            return Outcome::Dropped;
+        }
+        let f = e.first();
+        let mut at: usize = 0;
+        while at < len {
+            let x = self.edges[at];
+            if !x.cs_coord.less(f.cs_coord) {
+                break;
             }
-            i += 1;
+            at += 1;
         }
-        i
-    }
-
-    // From `insert`: one edge is put at a place, and those from there on go up by one.
-    fn put_at(self, at: usize, first: Hint) -> HintMap
-        requires { ⌜ (at ≤ self .len) × (self .len < 96) ⌝ }
-        ensures { λ r. ⌜ r ≡ putIn self at first ⌝ }
-    {
-        let mut m = self;
-        let mut k = m.len;
-        while at < k {
-            let e = m.edges[k - 1];
-            m.edges[k] = e;
-            k -= 1;
-        }
-        m.edges[at] = first;
-        m.len = m.len + 1;
-        m
-    }
-
-    // A pair is put at a place.
-    fn put_pair(self, at: usize, bottom: Hint, top: Hint) -> HintMap
-        requires { ⌜ (at ≤ self .len) × (self .len < 95) ⌝ }
-        ensures { λ r. ⌜ r ≡ putTwoIn self at bottom top ⌝ }
-    {
-        let m = self.put_at(at, bottom);
-        m.put_at(at + 1, top)
-    }
-
-    // The edge at the place, if there is one, does not stand in the way in character height.
-    fn char_clear(self, at: usize, e: Edges) -> bool
-        requires { ⌜ self .len ≤ 96 ⌝ }
-        ensures { λ r. ⌜ r ≡ charClear (drop at (view self)) e ⌝ }
-    {
-        let len = self.len;
         if at < len {
             let x = self.edges[at];
-            return !e.barred(x);
+            if e.barred(x) {
+                return Outcome::Dropped;
+            }
         }
-        true
-    }
-
-    // Nor on the device.
-    fn above_clear(self, at: usize, e: Edges) -> bool
-        requires { ⌜ self .len ≤ 96 ⌝ }
-        ensures { λ r. ⌜ r ≡ aboveClear (drop at (view self)) e ⌝ }
-    {
-        let len = self.len;
-        if at < len {
-            let x = self.edges[at];
-            return !e.too_high(x);
+        let mut p = e;
+        if e.is_free(given) {
+            p = e.around(initial.transform(e.middle()), self.scale);
         }
-        true
-    }
-
-    // Nor does the edge before.
-    fn below_clear(self, at: usize, e: Edges) -> bool
-        requires { ⌜ (at ≤ self .len) × (self .len ≤ 96) ⌝ }
-        ensures { λ r. ⌜ r ≡ belowClear (view self) at e ⌝ }
-    {
         if 0 < at {
-            let x = self.edges[at - 1];
-            return !e.under(x);
+            let before = self.edges[at - 1];
+            if p.under(before) {
+                return Outcome::Dropped;
+            }
         }
-        true
+        if at < len {
+            let after = self.edges[at];
+            if p.too_high(after) {
+                return Outcome::Dropped;
+            }
+        }
+        Outcome::Enters(at, p)
     }
 
-    // The edges, as they are placed, are put in where no neighbour is in the way on the device.
-    fn settled(self, at: usize, e: Edges) -> HintMap
+    // From `insert`: edges are put at a place, and those from there on go up.
+    fn put(mut self, at: usize, e: Edges) -> HintMap
         requires { ⌜ (at ≤ self .len) × (enters (self .len) e ≡ true) ⌝ }
-        ensures { λ r. ⌜ r ≡ settle self at e ⌝ }
+        ensures { λ r. ⌜ r ≡ putEdges self at e ⌝ }
     {
-        if !self.below_clear(at, e) {
-            return self;
-        }
-        if !self.above_clear(at, e) {
-            return self;
+        let n = e.count();
+        let mut k = self.len;
+        self.len = k + n;
+        while at < k {
+            k -= 1;
+            let x = self.edges[k];
+            self.edges[k + n] = x;
         }
         match e {
-            Edges::One(x) => self.put_at(at, x),
-            Edges::Two(b, t) => self.put_pair(at, b, t),
+            Edges::One(x) => {
+                self.edges[at] = x;
+            }
+            Edges::Two(b, t) => {
+                self.edges[at] = b;
+                self.edges[at + 1] = t;
+            }
         }
+        self
     }
 
     // Ports `HintMap::insert`: a stem's edges are put in, or dropped. The initial map counts where it is given.
-    pub fn insert(self, bottom: Hint, top: Hint, initial: HintMap, given: bool) -> HintMap
+    pub fn insert(self, e: Edges, initial: HintMap, given: bool) -> HintMap
         requires { ⌜ (self .len ≤ 96) × (initial .len ≤ 96) ⌝ }
-        ensures { λ r. ⌜ r ≡ insertIn self (chosen bottom top) initial given ⌝ }
+        ensures { λ r. ⌜ r ≡ insertIn self e initial given ⌝ }
     {
-        let e = choose(bottom, top);
-        if !e.may_enter(self.len) {
-            return self;
+        match self.outcome(e, initial, given) {
+            Outcome::Enters(at, placed) => self.put(at, placed),
+            Outcome::Dropped => self,
         }
-        let f = e.first();
-        let at = self.place(f.cs_coord);
-        if !self.char_clear(at, e) {
-            return self;
-        }
-        let p = e.placed(initial, given, self.scale);
-        self.settled(at, p)
     }
 }

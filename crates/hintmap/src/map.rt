@@ -2,9 +2,8 @@
 use fixed::Fixed;
 use stems::Hint;
 ghost use mathlib.Core.Path.{_≡_};
-ghost use Prim.Native.Nat.{_<_, _≤_};
-ghost use lib.ListN.{drop};
-ghost use Rattle.hintmap.specs.Map.{newMap, clearedMap, invalidMap, validMap, view, line, reach, backed, mapOf};
+ghost use Prim.Native.Nat.{_≤_};
+ghost use Rattle.hintmap.specs.Map.{newMap, invalidMap, validMap, view, line, mapOf};
 
 pub struct HintMap {
     pub edges: [Hint; 96],
@@ -34,16 +33,6 @@ impl HintMap {
         }
     }
 
-    // Ports `HintMap::clear`: what the records hold stays, unread.
-    pub fn clear(self) -> HintMap
-        ensures { λ r. ⌜ r ≡ clearedMap self ⌝ }
-    {
-        let mut map = self;
-        map.len = 0;
-        map.is_valid = false;
-        map
-    }
-
     // From `hint_mask`: the map is to be built anew, and keeps its edges until then.
     pub fn invalidate(self) -> HintMap
         ensures { λ r. ⌜ r ≡ invalidMap self ⌝ }
@@ -62,51 +51,29 @@ impl HintMap {
         built
     }
 
-    // From `transform`: upward from the first edge, past each next one that is at or below the height.
-    fn walk_up(self, height: Fixed) -> usize
-        requires { ⌜ (0 < self .len) × (self .len ≤ 96) ⌝ }
-        ensures { λ r. ⌜ r ≡ reach (drop 1 (view self)) height ⌝ }
-    {
-        let len = self.len;
-        let mut i: usize = 0;
-        while i + 1 < len {
-            let next = self.edges[i + 1];
-            if !next.cs_coord.at_most(height) {
-                return i;
-            }
-            i += 1;
-        }
-        i
-    }
-
-    // From `transform`: and downward again, past each edge that is above it.
-    fn walk_down(self, from: usize, height: Fixed) -> usize
-        requires { ⌜ (from < self .len) × (self .len ≤ 96) ⌝ }
-        ensures { λ r. ⌜ r ≡ backed (view self) from height ⌝ }
-    {
-        let mut i = from;
-        while 0 < i {
-            let edge = self.edges[i];
-            if !height.less(edge.cs_coord) {
-                return i;
-            }
-            i -= 1;
-        }
-        i
-    }
-
-    // Ports `HintMap::transform`.
+    // Ports `HintMap::transform`: upward from the first edge, past each next one that is at or below the height, and downward again past each that is above it.
     pub fn transform(self, height: Fixed) -> Fixed
         requires { ⌜ self .len ≤ 96 ⌝ }
         ensures { λ r. ⌜ r ≡ mapOf (view self) (self .scale) height ⌝ }
     {
-        if self.len == 0 {
+        let len = self.len;
+        if len == 0 {
             return height.mul(self.scale);
         }
-        let i = self.walk_down(self.walk_up(height), height);
-        if 0 < i {
+        let mut i: usize = 0;
+        while i + 1 < len {
+            let next = self.edges[i + 1];
+            if !next.cs_coord.at_most(height) {
+                break;
+            }
+            i += 1;
+        }
+        while 0 < i {
             let edge = self.edges[i];
-            return on_line(edge, edge.scale, height);
+            if !height.less(edge.cs_coord) {
+                return on_line(edge, edge.scale, height);
+            }
+            i -= 1;
         }
         let first = self.edges[0];
         if height.less(first.cs_coord) {

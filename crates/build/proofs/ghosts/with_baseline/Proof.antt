@@ -14,13 +14,16 @@ ghost-at-requires c κs = search needs
 none-requires : tie.Need-none-requires
 none-requires c κs = search needs
 
+choose-requires : tie.Need-choose-requires
+choose-requires c κs = search needs
+
 insert-requires : tie.Need-insert-requires
 insert-requires c κs = search needs
 
 returns : tie.Need-returns
 unfolding baselined
 returns c =
-    let t = c .before .before .before .before in
+    let t = c .before .before .before .before .before in
     rw (sym (t .before .is-uncovered .ensures), t .if1 .taken) (cc)
 
 returns-2 : tie.Need-returns-2
@@ -34,6 +37,7 @@ with-baseline-spec =
     is-uncovered-requires
     ghost-at-requires
     none-requires
+    choose-requires
     insert-requires
     returns
     returns-2)

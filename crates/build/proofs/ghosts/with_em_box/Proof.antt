@@ -11,8 +11,8 @@ em-bottom-requires c κs = search needs
 none-requires : tie.Need-none-requires
 none-requires c κs = search needs
 
-insert-requires : tie.Need-insert-requires
-insert-requires c κs = search needs
+choose-requires : tie.Need-choose-requires
+choose-requires c κs = search needs
 
 none-requires-2 : tie.Need-none-requires-2
 none-requires-2 c κs = search needs
@@ -20,14 +20,20 @@ none-requires-2 c κs = search needs
 em-top-requires : tie.Need-em-top-requires
 em-top-requires c κs = search needs
 
+choose-requires-2 : tie.Need-choose-requires-2
+choose-requires-2 c κs = search needs
+
+insert-requires : tie.Need-insert-requires
+insert-requires c κs = search needs
+
 insert-requires-2 : tie.Need-insert-requires-2
 insert-requires-2 c κs =
-    let s = c .before .before .before .before .before .before .before in
-    (rw (c .before .before .insert .ensures) (insert-len _ _ _ _ (s .pre .0)), s .pre .1)
+    let s = c .before .before .before .before .before .before .before .before .before in
+    (rw (c .insert .ensures) (insert-len _ _ _ _ (s .pre .0)), s .pre .1)
 
 returns : tie.Need-returns
 unfolding emBoxed
-returns c = rw (c .before .before .before .before .before .before .before .if1 .taken) (cc)
+returns c = rw (c .before .before .before .before .before .before .before .before .before .if1 .taken) (cc)
 
 returns-2 : tie.Need-returns-2
 unfolding emBoxed
@@ -39,9 +45,11 @@ with-em-box-spec =
     (tie.spec
     em-bottom-requires
     none-requires
-    insert-requires
+    choose-requires
     none-requires-2
     em-top-requires
+    choose-requires-2
+    insert-requires
     insert-requires-2
     returns
     returns-2)

@@ -25,14 +25,18 @@ cast-setup-2 c = search needs
 setup-requires-2 : tie.Need-setup-requires-2
 setup-requires-2 c κs = search needs
 
+choose-requires : tie.Need-choose-requires
+choose-requires c κs = search needs
+
 insert-requires : tie.Need-insert-requires
 insert-requires c κs = search needs
 
 returns-2 : tie.Need-returns-2
 unfolding freeTurn
 returns-2 c =
-    let e = c .before .before .before .before in
-    rw (sym (e .before .get .ensures), not-false (e .before .get .result) (e .if1 .left)) (cc)
+    let e = c .before .before .before .before .before in
+    let s = c .before .before in
+    rw (sym (e .before .get .ensures), not-false (e .before .get .result) (e .if1 .left), sym (s .before .setup .ensures), sym (s .setup2 .ensures), sym (c .before .choose .ensures), sym (c .insert .ensures))
 
 pub free-turn-spec : {M : Type 1} → statement M
 free-turn-spec =
@@ -44,5 +48,6 @@ free-turn-spec =
     setup-requires
     cast-setup-2
     setup-requires-2
+    choose-requires
     insert-requires
     returns-2)

@@ -26,16 +26,19 @@ returns-2 c =
     let e = r .before in
     rw (sym (e .before .get .ensures), not-false (e .before .get .result) (e .if1 .left), sym (r .ready .ensures), not-true (r .ready .result .captured) (c .if2 .taken))
 
+choose-requires : tie.Need-choose-requires
+choose-requires c κs = search needs
+
 insert-requires : tie.Need-insert-requires
 insert-requires c κs = search needs
 
 clear-requires : tie.Need-clear-requires
-clear-requires c κs = search needs
+clear-requires c κs = c .before .before .before .before .before .before .before .before .before .before .before .pre .1 .1 .0
 
 returns-3 : tie.Need-returns-3
 unfolding lockedTurn
 returns-3 c =
-    let f = c .before .before .before .before .before in
+    let f = c .before .before .before .before .before .before in
     let r = f .before .before in
     let e = r .before in
     rw (sym (e .before .get .ensures), not-false (e .before .get .result) (e .if1 .left), sym (r .ready .ensures), not-false (r .ready .result .captured) (f .if2 .left)) (cc)
@@ -49,6 +52,7 @@ locked-turn-spec =
     cast-ready
     ready-requires
     returns-2
+    choose-requires
     insert-requires
     clear-requires
     returns-3)

@@ -1,26 +1,46 @@
--- `HintMap::transform` meets its contract: the walk down from where the walk up ends goes nowhere, and the edge there serves. Assumes nothing.
+-- `HintMap::transform` meets its contract. The first loop's invariant: the edges that the walk up passes are `i` and those that it passes after the next.
+-- The second's: `i` is where the walk up ends, so that its turn never goes on. Assumes nothing.
 use borrow.Author.Needs.{needs}
 use mathlib.Core.Path.{_≡_, sym, ap, _∙_}
-use mathlib.Core.Bool.{false, _&&_}
-use Prim.Native.Nat.{ℕ, _<_}
+use mathlib.Core.Bool.{false, _&&_, true≢false}
+use mathlib.Core.Logic.{⊎-elim}
+use Prim.Native.Nat.{ℕ, _<_, _-_, _+_}
 use native.Mathlib.Omega.{arith}
 use lib.ListN.{drop, getD}
 use lib.Dec.{eqb}
-use borrow.Author.Tests.{ne-eqb}
+use borrow.Author.Tests.{ne-eqb, not-false}
 use Rattle.fixed.specs.declared.Fixed.{Fixed}
-use Rattle.fixed.specs.Fixed.{lessF}
+use Rattle.fixed.specs.Fixed.{lessF, atMostF}
+use Rattle.stems.specs.declared.edge.Hint.{Hint}
 use Rattle.hintmap.specs.declared.map.HintMap.{HintMap}
 use Rattle.stems.specs.Edge.{noHint}
-use Rattle.hintmap.specs.Map.{view, reach, backed, mapOf, line, lineBy}
-use Rattle.hintmap.proofs.Near.{held-long}
-use Rattle.hintmap.proofs.Walk.{reach-below, no-way-back, map-some}
+use Rattle.hintmap.specs.Map.{view, reach, mapOf, line, lineBy}
+use Rattle.hintmap.proofs.Near.{Asked, asked, held-long}
+use Rattle.hintmap.proofs.Walk.{no-way-back, map-some}
 use Rattle.hintmap.proofs.map.HintMap.transform.Statement.{statement}
 use Rattle.hintmap.proofs.map.HintMap.transform.Tie as tie
 
--- what is known once the edge that serves is found
-module _ (c : tie.After-walk-down) where
-  abbrev begin : tie.Start
-  begin = c .before .before .before
+abbrev Inv-loop : tie.InvT-loop
+Inv-loop height self len i₀ i =
+    (i < self .len) × (reach (drop 1 (view self)) height ≡ i + reach (drop (i + 1) (view self)) height)
+
+abbrev μ-loop : tie.MeasureT-loop
+μ-loop height self len i₀ i = self .len - i
+
+abbrev Inv-loop2 : tie.InvT-loop2
+Inv-loop2 height self len i₀ i = (i < self .len) × (i ≡ reach (drop 1 (view self)) height)
+
+abbrev μ-loop2 : tie.MeasureT-loop2
+μ-loop2 height self len i₀ i = i
+
+-- what the walk up asks of the edges
+known : (s : tie.Start Inv-loop μ-loop Inv-loop2 μ-loop2) → Asked (s .args .t1) (λ (e : Hint). atMostF (e .«cs_coord») (s .args .height))
+known s = asked (s .args .t1) (s .good .0 .1 .1 .0 .1 .0 .1) (s .pre) _
+
+-- what is known where the walk up has ended
+module _ (c : tie.At-loop2 Inv-loop μ-loop Inv-loop2 μ-loop2) where
+  abbrev begin : tie.Start Inv-loop μ-loop Inv-loop2 μ-loop2
+  begin = c .before .before .before .before
 
   abbrev map : HintMap
   map = begin .args .t1
@@ -28,78 +48,116 @@ module _ (c : tie.After-walk-down) where
   abbrev at : Fixed
   at = begin .args .height
 
-  some : 0 < map .len
-  some = omega arith
-
-  serves : c .walk-down .result ≡ reach (drop 1 (view map)) at
-  serves = c .walk-down .ensures ∙ ap (λ (k : ℕ). backed (view map) k at) (c .before .walk-up .ensures) ∙ no-way-back (view map) at
-
-  within : c .walk-down .result < map .len
-  within = omega (arith, serves, reach-below (map .len) (map .edges) at some)
-
   -- the line that is taken, by the place of the edge
   abbrev taken : ℕ → Fixed
   taken k = lineBy (eqb k 0 && lessF at (getD (map .edges) 0 noHint .«cs_coord»)) (getD (map .edges) 0 noHint) (getD (map .edges) k noHint) (map .scale) at
 
-  mapped : mapOf (view map) (map .scale) at ≡ taken (c .walk-down .result)
-  mapped = map-some (map .edges) (map .len) (map .scale) at some (omega (arith, held-long map (begin .good .0 .1 .1 .0 .1 .0 .1))) ∙ ap taken (sym serves)
+  mapped : mapOf (view map) (map .scale) at ≡ taken (c .loop2 .i)
+  mapped = map-some (map .edges) (map .len) (map .scale) at (omega arith) (omega (arith, held-long map (begin .good .0 .1 .1 .0 .1 .0 .1))) ∙ ap taken (sym (c .loop2 .inv .1))
 
-mul-requires : tie.Need-mul-requires
+  no-way : 0 < c .loop2 .i → lessF at (getD (map .edges) (c .loop2 .i) noHint .«cs_coord») ≡ false
+  no-way p = no-way-back (map .edges) (map .len) at (c .loop2 .i) (c .loop2 .inv .1) p (c .loop2 .inv .0)
+
+mul-requires : tie.Need-mul-requires Inv-loop μ-loop Inv-loop2 μ-loop2
 mul-requires c κs = search needs
 
-returns : tie.Need-returns
+returns : tie.Need-returns Inv-loop μ-loop Inv-loop2 μ-loop2
 unfolding mapOf
 returns c =
     let z : c .before .before .before .args .t1 .len ≡ 0 = search needs in
     rw z (c .mul .ensures)
 
-walk-up-requires : tie.Need-walk-up-requires
-walk-up-requires c κs = search needs
+loop-holds : tie.Need-loop-holds Inv-loop μ-loop Inv-loop2 μ-loop2
+loop-holds c = (omega arith, omega arith)
 
-walk-down-requires : tie.Need-walk-down-requires
-walk-down-requires c κs = (rw (c .walk-up .ensures) (reach-below _ _ _ (omega arith)), c .before .before .pre)
+add-loop : tie.Need-add-loop Inv-loop μ-loop Inv-loop2 μ-loop2
+add-loop c = omega arith
 
-mul-edge : tie.Need-mul-edge
-mul-edge c = omega (arith, within (c .before))
+add-next : tie.Need-add-next Inv-loop μ-loop Inv-loop2 μ-loop2
+add-next c = omega arith
 
-element-copy-out-edge : tie.Need-element-copy-out-edge
-element-copy-out-edge c = omega (arith, within (c .before))
+mul-next : tie.Need-mul-next Inv-loop μ-loop Inv-loop2 μ-loop2
+mul-next c = omega arith
 
-on-line-requires : tie.Need-on-line-requires
-on-line-requires c κs = search needs
+element-copy-out-next : tie.Need-element-copy-out-next Inv-loop μ-loop Inv-loop2 μ-loop2
+element-copy-out-next c = omega arith
 
-returns-2 : tie.Need-returns-2
-returns-2 c =
-    let r = c .before .before .before in
-    let z : eqb (r .walk-down .result) 0 ≡ false = ne-eqb (r .walk-down .result) 0 (λ e. omega arith) in
-    rw (mapped r, z) (c .on-line .ensures)
+at-most-requires : tie.Need-at-most-requires Inv-loop μ-loop Inv-loop2 μ-loop2
+at-most-requires c κs = search needs
 
-element-copy-out-first : tie.Need-element-copy-out-first
-element-copy-out-first c = search needs
+add-i : tie.Need-add-i Inv-loop μ-loop Inv-loop2 μ-loop2
+add-i c = omega arith
 
-less-requires : tie.Need-less-requires
+loop-less : tie.Need-loop-less Inv-loop μ-loop Inv-loop2 μ-loop2
+loop-less c = omega arith
+
+loop-again : tie.Need-loop-again Inv-loop μ-loop Inv-loop2 μ-loop2
+loop-again c =
+    let at = c .before .before .before .before in
+    (search needs, at .loop .inv .1 ∙ known (at .before .before) .passes _ _ (c .before .before .before .loop-test .taken) (c .before .at-most .ensures) (c .if2 .left))
+
+loop2-holds : tie.Need-loop2-holds Inv-loop μ-loop Inv-loop2 μ-loop2
+loop2-holds c =
+    let at = c .before in (
+      at .loop .inv .0,
+      sym (at .loop .inv .1 ∙ ⊎-elim (λ t. known (at .before .before) .ends _ _ (t .left)) (λ t. known (at .before .before) .stops _ _ (t .0 .taken) (t .2 .ensures) (t .3 .taken)) (c .loop-test .came)),
+    )
+
+mul-edge : tie.Need-mul-edge Inv-loop μ-loop Inv-loop2 μ-loop2
+mul-edge c = omega arith
+
+element-copy-out-edge : tie.Need-element-copy-out-edge Inv-loop μ-loop Inv-loop2 μ-loop2
+element-copy-out-edge c = omega arith
+
+less-requires : tie.Need-less-requires Inv-loop μ-loop Inv-loop2 μ-loop2
 less-requires c κs = search needs
 
-on-line-requires-2 : tie.Need-on-line-requires-2
+on-line-requires : tie.Need-on-line-requires Inv-loop μ-loop Inv-loop2 μ-loop2
+on-line-requires c κs = search needs
+
+returns-2 : tie.Need-returns-2 Inv-loop μ-loop Inv-loop2 μ-loop2
+returns-2 c =
+    let r = c .before .before .before .before .before in
+    let z : eqb (r .loop2 .i) 0 ≡ false = ne-eqb (r .loop2 .i) 0 (λ e. omega arith) in
+    rw (mapped r, z) (c .on-line .ensures)
+
+sub-i : tie.Need-sub-i Inv-loop μ-loop Inv-loop2 μ-loop2
+sub-i c = search needs
+
+loop2-less : tie.Need-loop2-less Inv-loop μ-loop Inv-loop2 μ-loop2
+loop2-less c = search needs
+
+loop2-again : tie.Need-loop2-again Inv-loop μ-loop Inv-loop2 μ-loop2
+loop2-again c =
+    let r = c .before .before .before .before in
+    absurd (true≢false (sym (not-false _ (c .if3 .left)) ∙ c .before .less .ensures ∙ no-way r (search needs)))
+
+element-copy-out-first : tie.Need-element-copy-out-first Inv-loop μ-loop Inv-loop2 μ-loop2
+element-copy-out-first c = search needs
+
+less-requires-2 : tie.Need-less-requires-2 Inv-loop μ-loop Inv-loop2 μ-loop2
+less-requires-2 c κs = search needs
+
+on-line-requires-2 : tie.Need-on-line-requires-2 Inv-loop μ-loop Inv-loop2 μ-loop2
 on-line-requires-2 c κs = search needs
 
-returns-3 : tie.Need-returns-3
+returns-3 : tie.Need-returns-3 Inv-loop μ-loop Inv-loop2 μ-loop2
 returns-3 c =
     let r = c .before .before .before .before .before .before in
-    let z : r .walk-down .result ≡ 0 = omega arith in
-    let t = sym (c .before .before .before .less .ensures) ∙ c .before .before .if3 .taken in
+    let z : r .loop2 .i ≡ 0 = omega arith in
+    let t = sym (c .before .before .before .less2 .ensures) ∙ c .before .before .if4 .taken in
     let first = getD (map r .edges) 0 noHint in
     let m : taken r 0 ≡ line first (map r .scale) (at r) = rw t in
     c .on-line2 .ensures ∙ sym (mapped r ∙ ap (taken r) z ∙ m)
 
-on-line-requires-3 : tie.Need-on-line-requires-3
+on-line-requires-3 : tie.Need-on-line-requires-3 Inv-loop μ-loop Inv-loop2 μ-loop2
 on-line-requires-3 c κs = search needs
 
-returns-4 : tie.Need-returns-4
+returns-4 : tie.Need-returns-4 Inv-loop μ-loop Inv-loop2 μ-loop2
 returns-4 c =
     let r = c .before .before .before .before .before in
-    let z : r .walk-down .result ≡ 0 = omega arith in
-    let t = sym (c .before .before .less .ensures) ∙ c .before .if3 .left in
+    let z : r .loop2 .i ≡ 0 = omega arith in
+    let t = sym (c .before .before .less2 .ensures) ∙ c .before .if4 .left in
     let first = getD (map r .edges) 0 noHint in
     let m : taken r 0 ≡ line first (first .scale) (at r) = rw t in
     c .on-line3 .ensures ∙ sym (mapped r ∙ ap (taken r) z ∙ m)
@@ -108,16 +166,32 @@ pub transform-spec : {M : Type 1} → statement M
 transform-spec =
     tie.close
     (tie.spec
+    Inv-loop
+    μ-loop
+    Inv-loop2
+    μ-loop2
     mul-requires
     returns
-    walk-up-requires
-    walk-down-requires
+    loop-holds
+    add-loop
+    add-next
+    mul-next
+    element-copy-out-next
+    at-most-requires
+    add-i
+    loop-less
+    loop-again
+    loop2-holds
     mul-edge
     element-copy-out-edge
+    less-requires
     on-line-requires
     returns-2
+    sub-i
+    loop2-less
+    loop2-again
     element-copy-out-first
-    less-requires
+    less-requires-2
     on-line-requires-2
     returns-3
     on-line-requires-3

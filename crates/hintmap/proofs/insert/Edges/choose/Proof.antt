@@ -1,10 +1,10 @@
--- `choose` meets its contract: each answer by the tests that led to it. Assumes nothing.
+-- `Edges::choose` meets its contract: each answer by the tests that led to it. Assumes nothing.
 use borrow.Author.Needs.{needs}
 use mathlib.Core.Path.{sym, _∙_}
 use borrow.Author.Tests.{not-true, not-false}
 use Rattle.hintmap.specs.Insert.{chosen}
-use Rattle.hintmap.proofs.insert.choose.Statement.{statement}
-use Rattle.hintmap.proofs.insert.choose.Tie as tie
+use Rattle.hintmap.proofs.insert.Edges.choose.Statement.{statement}
+use Rattle.hintmap.proofs.insert.Edges.choose.Tie as tie
 
 is-valid-requires : tie.Need-is-valid-requires
 is-valid-requires c κs = search needs

@@ -1,26 +1,16 @@
--- `Edges::place_again` meets its contract, in each case by those of its calls. Assumes nothing.
+-- `Edges::around` meets its contract, in each case by those of its calls. Assumes nothing.
 use borrow.Author.Needs.{needs}
-use Rattle.hintmap.specs.Insert.{again}
-use Rattle.hintmap.proofs.insert.Edges.place_again.Statement.{statement}
-use Rattle.hintmap.proofs.insert.Edges.place_again.Tie as tie
+use Rattle.hintmap.proofs.insert.Edges.around.Statement.{statement}
+use Rattle.hintmap.proofs.insert.Edges.around.Tie as tie
 
 enum-known-self : tie.Need-enum-known-self
 enum-known-self c = search needs
-
-transform-requires : tie.Need-transform-requires
-transform-requires c κs = search needs
 
 at-device-requires : tie.Need-at-device-requires
 at-device-requires c κs = search needs
 
 enum-known-self-2 : tie.Need-enum-known-self-2
 enum-known-self-2 c = search needs
-
-midpoint-requires : tie.Need-midpoint-requires
-midpoint-requires c κs = search needs
-
-transform-requires-2 : tie.Need-transform-requires-2
-transform-requires-2 c κs = search needs
 
 sub-requires : tie.Need-sub-requires
 sub-requires c κs = search needs
@@ -44,23 +34,18 @@ at-device-requires-3 : tie.Need-at-device-requires-3
 at-device-requires-3 c κs = search needs
 
 returns : tie.Need-returns
-unfolding again
-returns c = rw (c .before .before .before .self .given .1) (cc)
+returns c = rw (c .before .before .self .given .1) (cc)
 
 returns-2 : tie.Need-returns-2
-unfolding again
-returns-2 c = rw (c .before .before .before .before .before .before .before .before .before .before .self2 .given .1) (cc)
+returns-2 c = rw (c .before .before .before .before .before .before .before .before .self2 .given .1) (cc)
 
-pub place-again-spec : {M : Type 1} → statement M
-place-again-spec =
+pub around-spec : {M : Type 1} → statement M
+around-spec =
     tie.close
     (tie.spec
     enum-known-self
-    transform-requires
     at-device-requires
     enum-known-self-2
-    midpoint-requires
-    transform-requires-2
     sub-requires
     half-requires
     mul-requires
