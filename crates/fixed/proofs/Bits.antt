@@ -15,7 +15,7 @@ use mir.Syntax.{Width, w32, w64}
 use mir.Val.{SFits, bits, hbits, toZ, ofZ, sel}
 use lib.Signed.{mag}
 use mir.ValLaws.{half-full, bits-suc}
-use mir.Facts.{toZ-ofZ, toZ-pos, toZ-neg, fits-ofZ, sfits-widen}
+use mir.Facts.{toZ-ofZ, toZ-pos, toZ-neg, fits-ofZ, sfits-widen, sfits-toZ, fits-of-lt}
 use Rattle.fixed.specs.Whole.{lowBits, clearLow, wrap32}
 use Rattle.fixed.proofs.Ints.{ints, up, dn, of-sub}
 
@@ -87,6 +87,11 @@ unfolding lowBits
 low-lt k (pos n) = mod-lt n (pow-pos k)
 low-lt k (negsuc n) = omega (arith, pow-pos k)
 
+-- what is wrapped fits
+pub wrap-fits : (z : ℤ) → SFits w32 (wrap32 z)
+unfolding wrap32
+wrap-fits z = sfits-toZ (fits-of-lt (low-lt 32 z))
+
 -- the low 32 bits n, read as signed, in naturals
 pub of-toZ : (n : ℕ) → n < 2 ^ 32 → up (toZ w32 n) + 2 ^ 31 ≡ (n + 2 ^ 31) % 2 ^ 32 + dn (toZ w32 n)
 of-toZ n h = go (ltb n (2 ^ 31)) refl
@@ -94,6 +99,17 @@ of-toZ n h = go (ltb n (2 ^ 31)) refl
     go : (t : Bool) → ltb n (2 ^ 31) ≡ t → up (sel t (pos n) (negsuc (2 ^ 32 - suc n))) + 2 ^ 31 ≡ (n + 2 ^ 31) % 2 ^ 32 + dn (sel t (pos n) (negsuc (2 ^ 32 - suc n)))
     go true e = omega (arith, ltb-true n (2 ^ 31) e)
     go false e = omega (arith, ltb-false n (2 ^ 31) e)
+
+-- the low 32 bits of a number of 64, in naturals
+of-low : (z : ℤ) → SFits w64 z → lowBits 32 z ≡ (up z + 2 ^ 64 - dn z) % 2 ^ 32
+unfolding lowBits
+of-low (pos n) h = omega arith
+of-low (negsuc n) h = omega arith
+
+-- a wrapped number in naturals, for `omega`
+pub of-wrap : (z : ℤ) → SFits w64 z → up (wrap32 z) + 2 ^ 31 ≡ (up z + (2 ^ 64 + 2 ^ 31) - dn z) % 2 ^ 32 + dn (wrap32 z)
+unfolding wrap32
+of-wrap z h = omega (ints, of-low z h, of-toZ (lowBits 32 z) (low-lt 32 z))
 
 -- an i32 fits an i64
 pub wide : {z : ℤ} → SFits w32 z → SFits w64 z

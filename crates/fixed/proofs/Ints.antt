@@ -119,7 +119,11 @@ eq-make {a = negsuc a} {b = pos b} h = absurd (omega arith)
 eq-make {a = negsuc a} {b = negsuc b} h = ap negsuc (omega arith)
 
 -- ---- what a signed width holds
--- `omega` applies one rule to a hypothesis, so `fit-read` is one statement, and leaves out that z is not the width's 2^31 or 2^63
+-- `omega` applies one rule to a hypothesis, so `fit-read` is one statement, and leaves out that z is not the width's 2^31 or 2^63: `fit-up` adds that
+pub fit-up : {w : Width} {z : ℤ} → SFits w z → up z < 2 ^ hbits w
+fit-up {z = pos n} h = h .sfits
+fit-up {w} {z = negsuc n} h = omega (arith, h .sfits)
+
 pub fit-read : {w : Width} {z : ℤ} → SFits w z → up z + dn z ≤ 2 ^ hbits w
 fit-read {z = pos n} h = omega (arith, h .sfits)
 fit-read {z = negsuc n} h = omega (arith, h .sfits)
