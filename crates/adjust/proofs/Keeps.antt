@@ -129,26 +129,6 @@ pub first-kept : (p : Pass) → Kept (p .map) (firstPass p .map)
 unfolding firstPass
 first-kept p = pass-kept (p .map .len) 0 p
 
--- ---- the second pass
-lift-kept : (m : HintMap) (j : ℕ) (by : Fixed) → Kept m (liftBoth m j by)
-unfolding liftBoth movedHint
-lift-kept m j by =
-    let i = lowerBy (isPair (edgeAt m j)) j in
-    let e = movedHint (edgeAt m i) by in
-    set-kept m (withEdge m i e) j (movedHint (edgeAt m j) by) (set-kept m m i e (kept-refl m) refl) refl
-
--- a note that is tried
-pub retry-kept : (m : HintMap) (j : ℕ) (by : Fixed) → Kept m (retryOf m j by)
-unfolding retryOf
-retry-kept m j by = cond-kept (ltb j (m .len) && roomUp (aboveOf m j) (edgeAt m j .«ds_coord») by) (lift-kept m j by) (kept-refl m)
-
-second-kept : (k : ℕ) (n : Notes) (m : HintMap) → Kept m (secondPass k n m)
-unfolding secondPass
-second-kept zero n m = kept-refl m
-second-kept (suc k) n m =
-    let r = retryOf m (getD (n .at) k 0) (getD (n .by) k none) in
-    kept-trans (retry-kept m (getD (n .at) k 0) (getD (n .by) k none)) (second-kept k n r)
-
 -- ---- the second pass sets no scale
 abbrev pub scales : HintMap → List Fixed
 scales m = map (λ (e : Hint). e .scale) (m .edges)
@@ -172,6 +152,26 @@ second-scales (suc k) n m =
     let j = getD (n .at) k 0 in
     let by = getD (n .by) k none in
     second-scales k n (retryOf m j by) ∙ cond-scales (ltb j (m .len) && roomUp (aboveOf m j) (edgeAt m j .«ds_coord») by) m (liftBoth m j by) m (lift-scales m j by) refl
+
+-- ---- what the second pass keeps
+lift-kept : (m : HintMap) (j : ℕ) (by : Fixed) → Kept m (liftBoth m j by)
+unfolding liftBoth movedHint
+lift-kept m j by =
+    let i = lowerBy (isPair (edgeAt m j)) j in
+    let e = movedHint (edgeAt m i) by in
+    set-kept m (withEdge m i e) j (movedHint (edgeAt m j) by) (set-kept m m i e (kept-refl m) refl) refl
+
+-- a note that is tried
+pub retry-kept : (m : HintMap) (j : ℕ) (by : Fixed) → Kept m (retryOf m j by)
+unfolding retryOf
+retry-kept m j by = cond-kept (ltb j (m .len) && roomUp (aboveOf m j) (edgeAt m j .«ds_coord») by) (lift-kept m j by) (kept-refl m)
+
+second-kept : (k : ℕ) (n : Notes) (m : HintMap) → Kept m (secondPass k n m)
+unfolding secondPass
+second-kept zero n m = kept-refl m
+second-kept (suc k) n m =
+    let r = retryOf m (getD (n .at) k 0) (getD (n .by) k none) in
+    kept-trans (retry-kept m (getD (n .at) k 0) (getD (n .by) k none)) (second-kept k n r)
 
 -- ---- the whole
 -- adjusting changes no edge but on the device, no number of edges, and nothing else of the map
