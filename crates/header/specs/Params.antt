@@ -8,6 +8,7 @@ use Rattle.fixed.specs.Fixed.{fromBits, lessF}
 use Rattle.zones.specs.declared.blues.Blue.{Blue}
 use Rattle.zones.specs.declared.blues.Blues.{Blues}
 use Rattle.zones.specs.declared.state.HintParams.{HintParams}
+use Rattle.zones.specs.Zones.{noBlue}
 use Rattle.words.specs.declared.answer.Answer.the-variants.{BadScript, BadScale, BadBlues}
 use Rattle.words.specs.Words.{rawAt, wordAt, numberAt}
 use Rattle.words.specs.Answers.{Row, row}
@@ -31,9 +32,6 @@ paramRows s =
 abbrev pub pairAt : List ℕ → ℕ → Blue
 pairAt s i = record { bottom = numberAt s i; top = numberAt s (i + 1) }
 
-abbrev pub noPair : Blue
-noPair = record { bottom = fromBits (pos 0); top = fromBits (pos 0) }
-
 -- n pairs from word i on
 unfoldable pub pairsFrom : List ℕ → ℕ → ℕ → List Blue
 pairsFrom s i zero = []
@@ -41,7 +39,7 @@ pairsFrom s i (suc n) = pairAt s i ∷ pairsFrom s (i + 2) n
 
 -- the same as a list of seven, zeros behind them
 unfoldable pub bluesAt : List ℕ → ℕ → ℕ → Blues
-bluesAt s i n = record { pairs = pairsFrom s i n ++ replicate (7 - n) noPair; count = n }
+bluesAt s i n = record { pairs = pairsFrom s i n ++ replicate (7 - n) noBlue; count = n }
 
 -- one pair more
 abbrev pub pushedPair : Blues → Blue → Blues

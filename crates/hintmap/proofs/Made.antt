@@ -1,6 +1,6 @@
 -- What a stem gives to put in is one single edge or the two of one stem. Assumes nothing.
-use mathlib.Core.Path.{_≡_, refl, sym, ap, _∙_}
-use mathlib.Core.Bool.{Bool, true, false, _&&_}
+use mathlib.Core.Path.{_≡_, sym, ap, _∙_}
+use mathlib.Core.Bool.{Bool, true, false}
 use mathlib.Core.Logic.{_⊎_, ⊎-elim}
 use Prim.Native.Nat.{ℕ}
 use Rattle.fixed.specs.declared.Fixed.{Fixed}
@@ -9,8 +9,8 @@ use Rattle.stems.specs.declared.edge.Kind.the-variants.{GhostBottom, GhostTop}
 use Rattle.stems.specs.declared.edge.Hint.{Hint}
 use Rattle.stems.specs.declared.edge.Shape.{Shape}
 use Rattle.stems.specs.declared.edge.Shape.the-variants.{BottomGhost, TopGhost, Pair}
-use Rattle.stems.specs.Edge.{validK, pairK, isValid, shapeOf, edgeOf, usedBy, setupOf}
-use Rattle.stems.proofs.Edges.{setup-index}
+use Rattle.stems.specs.Edge.{validK, pairK, isValid, shapeOf, edgeOf, setupOf}
+use Rattle.stems.proofs.Edges.{setup-kind, setup-index}
 use Rattle.hintmap.specs.declared.insert.Edges.the-variants.{One}
 use Rattle.hintmap.specs.Insert.{chosenBy, chosen}
 use Rattle.hintmap.specs.Stems.{Made, Like}
@@ -33,20 +33,11 @@ by-shape (BottomGhost h) i s b t p q o = by-valid b t true false (ap validK p) (
 by-shape (TopGhost h) i s b t p q o = by-valid b t false true (ap validK p) (ap validK q) (record { single = ap pairK q })
 by-shape (Pair l h) i s b t p q o = by-valid b t true true (ap validK p) (ap validK q) (record { bottom = p; top = q; own = o })
 
--- use leaves an edge's kind
-kept : (u : Bool) (st : StemHint) (e : Hint) → usedBy u st e .kind ≡ e .kind
-kept true st e = refl
-kept false st e = refl
-
 module _ (st : StemHint) (i : ℕ) (s : Fixed) where
-  setup-kind : (b : Bool) → setupOf st i s b .kind ≡ edgeOf (shapeOf st) b i s .kind
-  unfolding setupOf
-  setup-kind b = kept (st .«is_used» && isValid (edgeOf (shapeOf st) b i s)) st (edgeOf (shapeOf st) b i s)
-
   -- two edges that differ from those of a stem on the device only are made
   pub made-like : (b t : Hint) → Like (setupOf st i s true) b → Like (setupOf st i s false) t → Made (chosen b t)
   made-like b t p q =
-      by-shape (shapeOf st) i s b t (sym (p .kind) ∙ setup-kind true) (sym (q .kind) ∙ setup-kind false)
+      by-shape (shapeOf st) i s b t (sym (p .kind) ∙ setup-kind st i s true) (sym (q .kind) ∙ setup-kind st i s false)
       (sym (p .index) ∙ setup-index st i s true ∙ sym (setup-index st i s false) ∙ q .index)
 
   -- so are those of the stem

@@ -10,11 +10,10 @@ use Rattle.stems.specs.declared.mask.HintMask.{HintMask}
 use Rattle.stems.specs.Mask.{sameMask}
 use Rattle.zones.specs.declared.state.HintState.{HintState}
 use Rattle.hintmap.specs.declared.map.HintMap.{HintMap}
-use Rattle.hintmap.specs.Map.{view}
 use Rattle.build.specs.declared.place.Stems.{Stems}
 use Rattle.build.specs.Build.{initialOf, builtOf}
 use Rattle.build.proofs.Sound.{initial-good, built-good}
-use Rattle.build.proofs.Saved.{saved-keeps}
+use Rattle.build.proofs.Used.{built-keeps}
 use Rattle.hints.specs.declared.hints.Hints.{Hints}
 use Rattle.hints.specs.Hints.{Kept, newHints, stemBy, withStem, maskBy, withMask, initialBy, withInitial, countered, readyBy, readyOf}
 
@@ -28,8 +27,7 @@ built-len st m i ss = built-good st m i ss .within
 
 -- a build declares no stem
 pub built-count : (st : HintState) (m : HintMask) (i : HintMap) (ss : Stems) → builtOf st m i ss .stems .count ≡ ss .count
-unfolding builtOf
-built-count st m i ss = saved-keeps (view (builtOf st m i ss .map)) ss .declared
+built-count st m i ss = built-keeps st m i ss .declared
 
 -- new hints have it
 pub kept-new : (st : HintState) (s : Fixed) → st .«zone_count» ≤ 12 → Kept st (newHints s)

@@ -5,7 +5,6 @@ use mathlib.Core.List.{List, _++_, _∷_, [], append-assoc, append-nil}
 use Prim.Native.Nat.{ℕ, suc, _+_, _-_, _≤_, _<_}
 use native.Mathlib.Numerals.{add-one}
 use native.Mathlib.Omega.{arith}
-use lib.Dec.{leb}
 use lib.IntN.{ℤ, pos}
 use lib.ListN.{length, take, drop, set, getD, replicate, length-append}
 use lib.Seq.{take-suc, drop-cons, set-at, length-take-le, set-append-seam, take-append-seam}
@@ -16,7 +15,7 @@ use Rattle.pen.specs.declared.strokes.Start.the-variants.{At, Absent as 
 use Rattle.pen.specs.declared.strokes.Waiting.{Waiting}
 use Rattle.pen.specs.declared.strokes.Waiting.the-variants.{Line, Absent as NoLine}
 use Rattle.pen.specs.declared.strokes.Pen.{Pen}
-use Rattle.pen.specs.Records.{emitted, pushed, wordsOf, pickWords, written, fits, Put}
+use Rattle.pen.specs.Records.{emitted, pushed, wordsOf, pickWords, written}
 use Rattle.pen.specs.Strokes.{samePoint, pointWords, closeBy, waitingWords, closingWords, flushWords, moveOf, lineOf, curveOf, finishOf}
 
 -- one store more at the start of what was lent
@@ -65,18 +64,6 @@ count-is ws e = same-count e
 pub words-emitted : (ws : List ℤ) → wordsOf (emitted ws) ≡ ws
 unfolding emitted
 words-emitted ws = take-append-seam ws (replicate (10 - length ws) (pos 0))
-
-module _ {r : Records} (ws out : List ℤ) {said : Bool} {left : List ℤ} (e : r ≡ emitted ws) (p : Put out r said left) where
-  -- emitted words are written if and only if they fit
-  pub put-answer : said ≡ fits ws out
-  put-answer = rw (count-is ws e) at (p .answer)
-
-  -- emitted words are what is written
-  pub put-memory : left ≡ pickWords (fits ws out) (written ws out) out
-  unfolding emitted
-  put-memory =
-      p .memory ∙ ap (λ (q : Records). pickWords (leb (q .count) (length out)) (written (wordsOf q) out) out) e ∙
-      ap (λ (vs : List ℤ). pickWords (fits ws out) (written vs out) out) (words-emitted ws)
 
 close-short : (s : Start) (w : Waiting) → length (closeBy s w) ≤ 4
 close-short NoStart w = omega arith

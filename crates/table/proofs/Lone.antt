@@ -24,10 +24,10 @@ call-ends {st} {d} {c} {out} {said} {left} h = go (fit (wordsFor st d c) out) re
   where
     go : (b : Bool) → fit (wordsFor st d c) out ≡ b → said ≡ afterBy b st d c → left ≡ pickWords b (written (wordsFor st d c) out) out → CallEnds st d c out said left
     go true f e m =
-        fits (leb-true (length (wordsFor st d c)) (length out) f) (ap (λ (x : After). callNumber (x .answer)) e) (ap (λ (x : After). callWords (x .answer)) e)
+        fits (leb-true (length (wordsFor st d c)) (length out) f) (ap (λ (x : After). callNumber (x .answer)) e) (ap (λ (x : After). callWords (x .answer)) e) refl
         (ap (λ (x : After). x .drawing) e) m
     go false f e m =
-        refused (leb-false (length (wordsFor st d c)) (length out) f) (ap (λ (x : After). callNumber (x .answer)) e) (ap (λ (x : After). callWords (x .answer)) e)
+        refused (leb-false (length (wordsFor st d c)) (length out) f) (ap (λ (x : After). callNumber (x .answer)) e) (ap (λ (x : After). callWords (x .answer)) e) refl
         (ap (λ (x : After). x .drawing) e) m
 
 -- every opening ends in one of the three
@@ -38,11 +38,11 @@ open-ends p s = go (lessF s (fromBits (pos 1))) (countsFit p) refl refl
     go : (small fit : Bool) → lessF s (fromBits (pos 1)) ≡ small → countsFit p ≡ fit → OpenEnds p s
     go true fit e f =
         let o = ap (λ (b : Bool). openBy b (countsFit p) p s) e in
-        scale (omega heights) (ap (λ (x : Opened). openNumber (x .answer)) o) (record { state = ap (λ (x : Opened). x .state) o; drawing = ap (λ (x : Opened). x .drawing) o })
+        scale (omega heights) (ap (λ (x : Opened). openNumber (x .answer)) o) refl (record { state = ap (λ (x : Opened). x .state) o; drawing = ap (λ (x : Opened). x .drawing) o })
     go false false e f =
         let o = ap (λ (b : Bool). openBy b (countsFit p) p s) e ∙ ap (λ (b : Bool). openBy false b p s) f in
-        counts (omega heights) f (ap (λ (x : Opened). openNumber (x .answer)) o)
+        counts (omega heights) f (ap (λ (x : Opened). openNumber (x .answer)) o) refl
         (record { state = ap (λ (x : Opened). x .state) o; drawing = ap (λ (x : Opened). x .drawing) o })
     go false true e f =
         let o = ap (λ (b : Bool). openBy b (countsFit p) p s) e ∙ ap (λ (b : Bool). openBy false b p s) f in
-        opened (omega heights) f (ap (λ (x : Opened). openNumber (x .answer)) o) (ap (λ (x : Opened). x .state) o) (ap (λ (x : Opened). x .drawing) o)
+        opened (omega heights) f (ap (λ (x : Opened). openNumber (x .answer)) o) refl (ap (λ (x : Opened). x .state) o) (ap (λ (x : Opened). x .drawing) o)

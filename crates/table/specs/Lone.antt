@@ -36,9 +36,9 @@ callPlace a = 0
 
 -- a call that fits is done and answers its words; one that does not changes neither drawing nor buffer
 pub data CallEnds (st : HintState) (d : Drawing) (c : Call) (out : List ℤ) (said : After) (left : List ℤ) : Type 0 where
-  fits : length (wordsFor st d c) ≤ length out → callNumber (said .answer) ≡ 0 → callWords (said .answer) ≡ length (wordsFor st d c) →
+  fits : length (wordsFor st d c) ≤ length out → callNumber (said .answer) ≡ 0 → callWords (said .answer) ≡ length (wordsFor st d c) → callPlace (said .answer) ≡ 0 →
       said .drawing ≡ nextOf st d c → left ≡ written (wordsFor st d c) out → CallEnds st d c out said left
-  refused : length out < length (wordsFor st d c) → callNumber (said .answer) ≡ 6 → callWords (said .answer) ≡ 0 → said .drawing ≡ d → left ≡ out →
+  refused : length out < length (wordsFor st d c) → callNumber (said .answer) ≡ 6 → callWords (said .answer) ≡ 0 → callPlace (said .answer) ≡ 0 → said .drawing ≡ d → left ≡ out →
       CallEnds st d c out said left
 
 -- ---- opening
@@ -57,7 +57,7 @@ pub record Blank (p : HintParams) (s : Fixed) : Type 0 where
 
 -- the scale is refused first, then the counts, each with a new drawing of scale 1.0 beside it
 pub data OpenEnds (p : HintParams) (s : Fixed) : Type 0 where
-  scale : s .bits <ℤ pos 1 → openNumber (openOf p s .answer) ≡ 2 → Blank p s → OpenEnds p s
-  counts : pos 1 ≤ℤ s .bits → countsFit p ≡ false → openNumber (openOf p s .answer) ≡ 3 → Blank p s → OpenEnds p s
-  opened : pos 1 ≤ℤ s .bits → countsFit p ≡ true → openNumber (openOf p s .answer) ≡ 0 → openOf p s .state ≡ stateOf p s →
+  scale : s .bits <ℤ pos 1 → openNumber (openOf p s .answer) ≡ 2 → openPlace (openOf p s .answer) ≡ 0 → Blank p s → OpenEnds p s
+  counts : pos 1 ≤ℤ s .bits → countsFit p ≡ false → openNumber (openOf p s .answer) ≡ 3 → openPlace (openOf p s .answer) ≡ 0 → Blank p s → OpenEnds p s
+  opened : pos 1 ≤ℤ s .bits → countsFit p ≡ true → openNumber (openOf p s .answer) ≡ 0 → openPlace (openOf p s .answer) ≡ 0 → openOf p s .state ≡ stateOf p s →
       openOf p s .drawing ≡ newDrawing s → OpenEnds p s

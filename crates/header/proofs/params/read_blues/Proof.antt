@@ -8,7 +8,8 @@ use lib.ListN.{length, set, replicate}
 use lib.Seq.{set-at}
 use borrow.Author.Needs.{needs}
 use Rattle.zones.specs.declared.blues.Blue.{Blue}
-use Rattle.header.specs.Params.{pairAt, noPair, pairsFrom, bluesAt, pushedPair}
+use Rattle.zones.specs.Zones.{noBlue}
+use Rattle.header.specs.Params.{pairAt, pairsFrom, bluesAt, pushedPair}
 use Rattle.header.proofs.params.read_blues.Statement.{statement}
 use Rattle.header.proofs.params.read_blues.Tie as tie
 
@@ -31,8 +32,8 @@ blues-more : (s : List ℕ) (at n : ℕ) → n < 7 → pushedPair (bluesAt s at 
 unfolding bluesAt
 blues-more s at n h =
     let left : 7 - n ≡ suc (7 - (n + 1)) = omega arith in
-    let stored : set (pairsFrom s at n ++ replicate (7 - n) noPair) n (pairAt s (at + 2 * n)) ≡ pairsFrom s at (n + 1) ++ replicate (7 - (n + 1)) noPair =
-    rw left (set-at (pairsFrom s at n) noPair _ (pairAt s (at + 2 * n)) n (pairs-length s at n) ∙ sym (rw (add-one n, pairs-more s at n, append-assoc))) in
+    let stored : set (pairsFrom s at n ++ replicate (7 - n) noBlue) n (pairAt s (at + 2 * n)) ≡ pairsFrom s at (n + 1) ++ replicate (7 - (n + 1)) noBlue =
+    rw left (set-at (pairsFrom s at n) noBlue _ (pairAt s (at + 2 * n)) n (pairs-length s at n) ∙ sym (rw (add-one n, pairs-more s at n, append-assoc))) in
     ap (λ (l : List Blue). record { pairs = l; count = n + 1 }) stored
 
 abbrev Inv-loop : tie.InvT-loop
