@@ -59,12 +59,11 @@ pub fn run(
                 at = read.next;
             }
             Command::Draw(path) => {
-                let map = hints.map;
-                if wants_map(path, map.is_valid) {
+                if wants_map(path, hints.map.is_valid) {
                     hints = hints.ready(state);
                     continue;
                 }
-                let drawn = draw(map, state.scale, pen, path, &mut out[next..]);
+                let drawn = draw(hints.map, state.scale, pen, path, &mut out[next..]);
                 let answer = drawn.answer;
                 let Answer::Wrote(count) = answer else {
                     return Ran {

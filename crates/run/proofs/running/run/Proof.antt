@@ -59,16 +59,16 @@ module _ (c : tie.After-command Inv-loop μ-loop) where
 -- a call that draws
 module _ (c : tie.After-wants-map Inv-loop μ-loop) where
   abbrev draw-read : tie.After-read-command Inv-loop μ-loop
-  draw-read = c .before .before .before .before .before
+  draw-read = c .before .before .before .before
 
   abbrev draw-turn : tie.At-loop Inv-loop μ-loop
   draw-turn = turn draw-read
 
   abbrev path : Path
-  path = c .before .before .before .command2 .given .0 .0
+  path = c .before .before .command2 .given .0 .0
 
   draw-is : readAt (begin draw-turn .args .part .now) (begin draw-turn .args .n) (draw-turn .loop .at) .command ≡ Draw path
-  draw-is = sym (read-is draw-read) ∙ c .before .before .before .command2 .given .1
+  draw-is = sym (read-is draw-read) ∙ c .before .before .command2 .given .1
 
 -- the call, over the rest of the output
 module _ (c : tie.After-draw Inv-loop μ-loop) where
@@ -132,7 +132,7 @@ wants-map-requires : tie.Need-wants-map-requires Inv-loop μ-loop
 wants-map-requires c κs = search needs
 
 ready-requires : tie.Need-ready-requires Inv-loop μ-loop
-ready-requires c κs = c .before .before .before .before .before .before .before .before .loop .inv .kept
+ready-requires c κs = draw-turn (c .before) .loop .inv .kept
 
 loop-less-2 : tie.Need-loop-less-2 Inv-loop μ-loop
 loop-less-2 c =
@@ -173,8 +173,8 @@ enum-known-answer c = search needs
 enum-told : tie.Need-enum-told Inv-loop μ-loop
 enum-told c = search needs
 
-add-t27 : tie.Need-add-t27 Inv-loop μ-loop
-add-t27 c =
+add-t26 : tie.Need-add-t26 Inv-loop μ-loop
+add-t26 c =
     let l = call-turn (c .before .before .before) in
     omega (arith, begin l .pre .start, begin l .pre .short, draw-read (c .before .before .before .before .before .before) .before .loop-test .taken)
 
@@ -249,7 +249,7 @@ run-spec =
     draw-requires
     enum-known-answer
     enum-told
-    add-t27
+    add-t26
     same-length
     returns
     add-next
