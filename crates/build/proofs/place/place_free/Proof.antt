@@ -6,8 +6,6 @@ use native.Mathlib.Omega.{arith}
 use lib.ListN.{length, getD, length-map}
 use borrow.Author.Needs.{needs}
 use borrow.Author.Tests.{not-true, not-false}
-use Rattle.stems.specs.declared.edge.StemHint.{StemHint}
-use Rattle.hintmap.specs.declared.map.HintMap.{HintMap}
 use Rattle.build.specs.declared.place.Placed.{Placed}
 use Rattle.build.specs.Place.{freeTurn, freeTurns}
 use Rattle.build.specs.Build.{noStem}
@@ -31,22 +29,16 @@ module _ (c : tie.In-loop Inv-loop μ-loop) where
   abbrev start : tie.Start Inv-loop μ-loop
   start = c .before .before .before .before
 
-  abbrev stem : StemHint
-  stem = getD (start .args .t3 .list) (c .before .loop .i) noStem
-
-  abbrev soFar : HintMap → Placed
-  soFar m = record { map = m; rest = start .args .p .rest }
-
-  abbrev turn : Placed
-  turn = freeTurn (start .args .scale) (start .args .initial) (soFar (c .before .loop .map)) (c .before .loop .i) stem
+  abbrev soFar : Placed
+  soFar = record { map = c .before .loop .map; rest = start .args .p .rest }
 
   inside : c .before .loop .i < 96
   inside = omega arith
 
-  -- whatever it leaves, the turns after it are left
-  again : (m : HintMap) → turn ≡ soFar m → Left (freeTurns (start .args .scale) (start .args .initial)) (start .args .t3) (start .args .p) (soFar m) (c .before .loop .i + 1)
-  again m e =
-      rw e at (left-more (free-round (start .args .scale) (start .args .initial)) (start .args .t3) (start .args .p) (soFar (c .before .loop .map)) (c .before .loop .i) noStem (room start) (omega arith) (c .before .loop .inv))
+  -- whatever its turn leaves, the turns after it are left
+  again : (q : Placed) → freeTurn (start .args .scale) (start .args .initial) soFar (c .before .loop .i) (getD (start .args .t3 .list) (c .before .loop .i) noStem) ≡ q →
+      Left (freeTurns (start .args .scale) (start .args .initial)) (start .args .t3) (start .args .p) q (c .before .loop .i + 1)
+  again q = left-more (free-round (start .args .scale) (start .args .initial)) (start .args .t3) _ soFar q (c .before .loop .i) noStem (room start) (omega arith) (c .before .loop .inv)
 
 loop-holds : tie.Need-loop-holds Inv-loop μ-loop
 loop-holds c = (refl, (search needs, search needs))

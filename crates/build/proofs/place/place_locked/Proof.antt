@@ -6,9 +6,6 @@ use native.Mathlib.Omega.{arith}
 use lib.ListN.{length, getD, length-map}
 use borrow.Author.Needs.{needs}
 use borrow.Author.Tests.{not-true, not-false}
-use Rattle.stems.specs.declared.edge.StemHint.{StemHint}
-use Rattle.stems.specs.declared.mask.HintMask.{HintMask}
-use Rattle.hintmap.specs.declared.map.HintMap.{HintMap}
 use Rattle.build.specs.declared.place.Placed.{Placed}
 use Rattle.build.specs.Place.{lockedTurn, lockedTurns}
 use Rattle.build.specs.Build.{noStem}
@@ -32,23 +29,16 @@ module _ (c : tie.In-loop Inv-loop μ-loop) where
   abbrev start : tie.Start Inv-loop μ-loop
   start = c .before .before .before .before
 
-  abbrev stem : StemHint
-  stem = getD (start .args .t3 .list) (c .before .loop .i) noStem
-
   abbrev soFar : Placed
   soFar = record { map = c .before .loop .map; rest = c .before .loop .rest }
-
-  abbrev turn : Placed
-  turn = lockedTurn (start .args .state) (start .args .initial) (start .args .given) soFar (c .before .loop .i) stem
 
   inside : c .before .loop .i < 96
   inside = omega arith
 
-  -- whatever it leaves, the turns after it are left
-  again : (m : HintMap) (r : HintMask) → turn ≡ record { map = m; rest = r } →
-      Left (lockedTurns (start .args .state) (start .args .initial) (start .args .given)) (start .args .t3) (start .args .p) (record { map = m; rest = r }) (c .before .loop .i + 1)
-  again m r e =
-      rw e at (left-more (locked-round (start .args .state) (start .args .initial) (start .args .given)) (start .args .t3) (start .args .p) soFar (c .before .loop .i) noStem (room start) (omega arith) (c .before .loop .inv))
+  -- whatever its turn leaves, the turns after it are left
+  again : (q : Placed) → lockedTurn (start .args .state) (start .args .initial) (start .args .given) soFar (c .before .loop .i) (getD (start .args .t3 .list) (c .before .loop .i) noStem) ≡ q →
+      Left (lockedTurns (start .args .state) (start .args .initial) (start .args .given)) (start .args .t3) (start .args .p) q (c .before .loop .i + 1)
+  again q = left-more (locked-round (start .args .state) (start .args .initial) (start .args .given)) (start .args .t3) _ soFar q (c .before .loop .i) noStem (room start) (omega arith) (c .before .loop .inv)
 
 loop-holds : tie.Need-loop-holds Inv-loop μ-loop
 loop-holds c = (refl, (search needs, search needs))
@@ -66,7 +56,7 @@ loop-again : tie.Need-loop-again Inv-loop μ-loop
 unfolding lockedTurn
 loop-again c =
     let g = c .before in
-    again (g .before) _ _ (rw (sym (g .get .ensures), not-true (g .get .result) (c .if1 .taken)))
+    again (g .before) _ (rw (sym (g .get .ensures), not-true (g .get .result) (c .if1 .taken)))
 
 mul-stem : tie.Need-mul-stem Inv-loop μ-loop
 mul-stem c = search needs
@@ -92,7 +82,7 @@ loop-again-2 c =
     let r = c .before .before in
     let e = r .before .before in
     let g = e .before in
-    again (g .before) _ _ (rw (sym (g .get .ensures), not-false (g .get .result) (e .if1 .left), sym (r .ready .ensures), not-true (r .ready .result .captured) (c .if2 .taken)))
+    again (g .before) _ (rw (sym (g .get .ensures), not-false (g .get .result) (e .if1 .left), sym (r .ready .ensures), not-true (r .ready .result .captured) (c .if2 .taken)))
 
 choose-requires : tie.Need-choose-requires Inv-loop μ-loop
 choose-requires c κs = search needs
@@ -117,7 +107,7 @@ loop-again-3 c =
     let r = f .before .before in
     let e = r .before .before in
     let g = e .before in
-    again (g .before) _ _ (rw (sym (g .get .ensures), not-false (g .get .result) (e .if1 .left), sym (r .ready .ensures), not-false (r .ready .result .captured) (f .if2 .left), sym (o .choose .ensures), sym (c .before .insert .ensures), sym (c .clear .ensures)))
+    again (g .before) _ (rw (sym (g .get .ensures), not-false (g .get .result) (e .if1 .left), sym (r .ready .ensures), not-false (r .ready .result .captured) (f .if2 .left), sym (o .choose .ensures), sym (c .before .insert .ensures), sym (c .clear .ensures)))
 
 returns : tie.Need-returns Inv-loop μ-loop
 returns c =
