@@ -50,11 +50,11 @@ module _ {turn : Placed → ℕ → StemHint → Placed} {turns : ℕ → List S
   round-len i xs p h = round-keeps (i + length xs) (λ (j : ℕ) (q : Placed). q .map .len ≤ 96) (λ j x q l. r .few q j x) i xs p refl h
 
   -- a turn takes stem i
-  pub left-more : (ss : Stems) (p q : Placed) (i : ℕ) (d : StemHint) → ss .count ≤ length (ss .list) → i < ss .count → Left turns ss p q i → Left turns ss p (turn q i (getD (ss .list) i d)) (i + 1)
-  left-more ss p q i d f l h =
+  pub left-more : (ss : Stems) (p q q' : Placed) (i : ℕ) (d : StemHint) → ss .count ≤ length (ss .list) → i < ss .count → Left turns ss p q i → turn q i (getD (ss .list) i d) ≡ q' → Left turns ss p q' (i + 1)
+  left-more ss p q q' i d f l h e =
       let n : length (declaredIn ss) ≡ ss .count = length-take-le _ _ f in
       let s : drop i (declaredIn ss) ≡ getD (ss .list) i d ∷ drop (i + 1) (declaredIn ss) = rw (add-one i, drop-cons (declaredIn ss) i d (omega arith), getD-take (ss .count) (ss .list) i d l) in
-      (rw add-one (sym (r .more i (getD (ss .list) i d) (drop (suc i) (declaredIn ss)) q)) ∙ rw s at (h .0), (omega arith, r .few q i (getD (ss .list) i d) (h .1 .1)))
+      rw (← e) (rw add-one (sym (r .more i (getD (ss .list) i d) (drop (suc i) (declaredIn ss)) q)) ∙ rw s at (h .0), (omega arith, r .few q i (getD (ss .list) i d) (h .1 .1)))
 
   -- after the last stem nothing is left
   pub left-ends : (ss : Stems) (p q : Placed) (i : ℕ) → ss .count ≤ length (ss .list) → ss .count ≤ i → Left turns ss p q i → q ≡ turns 0 (declaredIn ss) p

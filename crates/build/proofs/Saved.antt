@@ -83,7 +83,7 @@ after k [] s = s
 after k (e ∷ es) s = after k es (stepBy (ownedBy k e) e s)
 
 -- saving an edge keeps the list's length, the count, and the ends of every stem
-in-length : (e : Hint) (ss : Stems) → length (savedIn e ss .list) ≡ length (ss .list)
+pub in-length : (e : Hint) (ss : Stems) → length (savedIn e ss .list) ≡ length (ss .list)
 unfolding savedIn
 in-length e ss = go (e .synthetic)
   where

@@ -8,8 +8,8 @@ use stems::StemHint;
 use zones::Captured;
 use zones::HintState;
 ghost use mathlib.Core.Path.{_≡_};
-ghost use Prim.Native.Nat.{_<_, _≤_};
-ghost use Rattle.build.specs.Place.{declaredIn, readyOf, lockedTurn, freeTurn, lockedTurns, freeTurns};
+ghost use Prim.Native.Nat.{_≤_};
+ghost use Rattle.build.specs.Place.{declaredIn, readyOf, lockedTurns, freeTurns};
 
 // The stems that are declared.
 pub struct Stems {
@@ -47,54 +47,7 @@ fn ready(state: HintState, stem: StemHint, index: u8) -> Captured
     state.capture(bottom, top)
 }
 
-// From `build`: one stem of the first round. An active stem that is locked or captured is put in, and handled even if it is dropped.
-fn locked_turn(
-    p: Placed,
-    state: HintState,
-    stem: StemHint,
-    i: usize,
-    initial: HintMap,
-    given: bool,
-) -> Placed
-    requires { ⌜ (p .map .len ≤ 96) × ((initial .len ≤ 96) × ((i < 96) × (state .«zone_count» ≤ 12))) ⌝ }
-    ensures { λ r. ⌜ r ≡ lockedTurn state initial given p i stem ⌝ }
-{
-    let rest = p.rest;
-    if !rest.get(i) {
-        return p;
-    }
-    let edges = ready(state, stem, i as u8);
-    if !edges.captured {
-        return p;
-    }
-    let map = p.map;
-    let bottom = edges.bottom;
-    let top = edges.top;
-    Placed {
-        map: map.insert(Edges::choose(bottom, top), initial, given),
-        rest: rest.clear(i),
-    }
-}
-
-// From `build`: one stem of the second round.
-fn free_turn(p: Placed, scale: Fixed, stem: StemHint, i: usize, initial: HintMap) -> Placed
-    requires { ⌜ (p .map .len ≤ 96) × ((initial .len ≤ 96) × (i < 96)) ⌝ }
-    ensures { λ r. ⌜ r ≡ freeTurn scale initial p i stem ⌝ }
-{
-    let rest = p.rest;
-    if !rest.get(i) {
-        return p;
-    }
-    let map = p.map;
-    let bottom = Hint::setup(stem, i as u8, scale, true);
-    let top = Hint::setup(stem, i as u8, scale, false);
-    Placed {
-        map: map.insert(Edges::choose(bottom, top), initial, true),
-        rest,
-    }
-}
-
-// From `build`: the first round over the stems.
+// From `build`: the first round over the stems. An active stem that is locked or captured is put in, and handled even if it is dropped.
 pub(crate) fn place_locked(
     p: Placed,
     state: HintState,
@@ -105,13 +58,24 @@ pub(crate) fn place_locked(
     requires { ⌜ (p .map .len ≤ 96) × ((initial .len ≤ 96) × ((stems .count ≤ 96) × (state .«zone_count» ≤ 12))) ⌝ }
     ensures { λ r. ⌜ r ≡ lockedTurns state initial given 0 (declaredIn stems) p ⌝ }
 {
-    let mut q = p;
+    let mut map = p.map;
+    let mut rest = p.rest;
     let count = stems.count;
     for i in 0..count {
+        if !rest.get(i) {
+            continue;
+        }
         let stem = stems.list[i];
-        q = locked_turn(q, state, stem, i, initial, given);
+        let edges = ready(state, stem, i as u8);
+        if !edges.captured {
+            continue;
+        }
+        let bottom = edges.bottom;
+        let top = edges.top;
+        map = map.insert(Edges::choose(bottom, top), initial, given);
+        rest = rest.clear(i);
     }
-    q
+    Placed { map, rest }
 }
 
 // From `build`: the second round, over the stems that are left.
@@ -119,11 +83,17 @@ pub(crate) fn place_free(p: Placed, scale: Fixed, stems: Stems, initial: HintMap
     requires { ⌜ (p .map .len ≤ 96) × ((initial .len ≤ 96) × (stems .count ≤ 96)) ⌝ }
     ensures { λ r. ⌜ r ≡ freeTurns scale initial 0 (declaredIn stems) p ⌝ }
 {
-    let mut q = p;
+    let mut map = p.map;
+    let rest = p.rest;
     let count = stems.count;
     for i in 0..count {
+        if !rest.get(i) {
+            continue;
+        }
         let stem = stems.list[i];
-        q = free_turn(q, scale, stem, i, initial);
+        let bottom = Hint::setup(stem, i as u8, scale, true);
+        let top = Hint::setup(stem, i as u8, scale, false);
+        map = map.insert(Edges::choose(bottom, top), initial, true);
     }
-    q
+    Placed { map, rest }
 }

@@ -11,9 +11,9 @@ use stems::HintMask;
 use stems::StemHint;
 use zones::HintState;
 ghost use mathlib.Core.Path.{_≡_};
-ghost use Prim.Native.Nat.{_<_, _≤_};
+ghost use Prim.Native.Nat.{_≤_};
 ghost use Rattle.hintmap.specs.Map.{view};
-ghost use Rattle.build.specs.Build.{savedStem, savedIn, savedAll, builtOf};
+ghost use Rattle.build.specs.Build.{savedStem, savedAll, builtOf};
 
 // A map, and the stems after its build.
 pub struct Built {
@@ -36,24 +36,7 @@ fn saved(stem: StemHint, edge: Hint) -> StemHint
     used
 }
 
-// From `build`: an edge's height is saved in its stem. No edge that a stem has is out of range.
-fn save_edge(stems: Stems, edge: Hint) -> Stems
-    ensures { λ r. ⌜ r ≡ savedIn edge stems ⌝ }
-{
-    if edge.is_synthetic() {
-        return stems;
-    }
-    let k = edge.index as usize;
-    if k < 96 {
-        let mut after = stems;
-        let stem = after.list[k];
-        after.list[k] = saved(stem, edge);
-        return after;
-    }
-    stems
-}
-
-// From `build`: the heights of all edges are saved.
+// From `build`: the heights of all edges are saved, each in its stem. No edge that a stem has is out of range.
 fn save_all(stems: Stems, map: HintMap) -> Stems
     requires { ⌜ map .len ≤ 96 ⌝ }
     ensures { λ r. ⌜ r ≡ savedAll (view map) stems ⌝ }
@@ -62,7 +45,14 @@ fn save_all(stems: Stems, map: HintMap) -> Stems
     let len = map.len;
     for i in 0..len {
         let edge = map.edges[i];
-        after = save_edge(after, edge);
+        if edge.is_synthetic() {
+            continue;
+        }
+        let k = edge.index as usize;
+        if k < 96 {
+            let stem = after.list[k];
+            after.list[k] = saved(stem, edge);
+        }
     }
     after
 }

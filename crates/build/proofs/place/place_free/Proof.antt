@@ -1,36 +1,50 @@
 -- `place_free` meets its contract. The loop's invariant: the turns that are left, taken from stem `i` on, give what all give, and the map keeps within its room.
--- The measure is what is left of the count. Assumes nothing.
-use mathlib.Core.Path.{refl}
-use Prim.Native.Nat.{_-_, _≤_}
+-- What each way through a turn leaves is what the definition's turn gives. The measure is what is left of the count. Assumes nothing.
+use mathlib.Core.Path.{_≡_, refl, sym}
+use Prim.Native.Nat.{_+_, _-_, _≤_, _<_}
 use native.Mathlib.Omega.{arith}
-use lib.ListN.{length, length-map}
+use lib.ListN.{length, getD, length-map}
 use borrow.Author.Needs.{needs}
-use Rattle.build.specs.Place.{freeTurns}
+use borrow.Author.Tests.{not-true, not-false}
+use Rattle.build.specs.declared.place.Placed.{Placed}
+use Rattle.build.specs.Place.{freeTurn, freeTurns}
+use Rattle.build.specs.Build.{noStem}
 use Rattle.build.proofs.Rounds.{Left, free-round, left-more, left-ends}
 use Rattle.build.proofs.place.place_free.Statement.{statement}
 use Rattle.build.proofs.place.place_free.Tie as tie
 
 abbrev Inv-loop : tie.InvT-loop
-Inv-loop scale initial stems q₀ count i₀ q i = Left (freeTurns scale initial) stems q₀ q i
+Inv-loop scale initial stems map₀ rest count i₀ map i =
+    Left (freeTurns scale initial) stems (record { map = map₀; rest = rest }) (record { map = map; rest = rest }) i
 
 abbrev μ-loop : tie.MeasureT-loop
-μ-loop scale initial stems q₀ count i₀ q i = count - i
+μ-loop scale initial stems map₀ rest count i₀ map i = count - i
 
 -- each stem that is declared has its place
 room : (s : tie.Start Inv-loop μ-loop) → s .args .t3 .count ≤ length (s .args .t3 .list)
 room s = omega (arith, simp length-map at (s .good .1 .1 .0 .1 .1 .0 .1 .0 .1))
 
+-- ---- the stem whose turn it is
+module _ (c : tie.In-loop Inv-loop μ-loop) where
+  abbrev start : tie.Start Inv-loop μ-loop
+  start = c .before .before .before .before
+
+  abbrev soFar : Placed
+  soFar = record { map = c .before .loop .map; rest = start .args .p .rest }
+
+  inside : c .before .loop .i < 96
+  inside = omega arith
+
+  -- whatever its turn leaves, the turns after it are left
+  again : (q : Placed) → freeTurn (start .args .scale) (start .args .initial) soFar (c .before .loop .i) (getD (start .args .t3 .list) (c .before .loop .i) noStem) ≡ q →
+      Left (freeTurns (start .args .scale) (start .args .initial)) (start .args .t3) (start .args .p) q (c .before .loop .i + 1)
+  again q = left-more (free-round (start .args .scale) (start .args .initial)) (start .args .t3) _ soFar q (c .before .loop .i) noStem (room start) (omega arith) (c .before .loop .inv)
+
 loop-holds : tie.Need-loop-holds Inv-loop μ-loop
 loop-holds c = (refl, (search needs, search needs))
 
-mul-stem : tie.Need-mul-stem Inv-loop μ-loop
-mul-stem c = search needs
-
-element-copy-out-stem : tie.Need-element-copy-out-stem Inv-loop μ-loop
-element-copy-out-stem c = search needs
-
-free-turn-requires : tie.Need-free-turn-requires Inv-loop μ-loop
-free-turn-requires c κs = search needs
+get-requires : tie.Need-get-requires Inv-loop μ-loop
+get-requires c κs = search needs
 
 add-i : tie.Need-add-i Inv-loop μ-loop
 add-i c = search needs
@@ -39,16 +53,54 @@ loop-less : tie.Need-loop-less Inv-loop μ-loop
 loop-less c = search needs
 
 loop-again : tie.Need-loop-again Inv-loop μ-loop
+unfolding freeTurn
 loop-again c =
-    let at = c .before .before .before in
-    let s = at .before in
-    rw (c .free-turn .ensures) (left-more (free-round (s .args .scale) (s .args .initial)) (s .args .t3) _ (at .loop .q) (at .loop .i) _ (room s) (search needs) (at .loop .inv))
+    let g = c .before in
+    again (g .before) _ (rw (sym (g .get .ensures), not-true (g .get .result) (c .if1 .taken)))
+
+mul-stem : tie.Need-mul-stem Inv-loop μ-loop
+mul-stem c = search needs
+
+element-copy-out-stem : tie.Need-element-copy-out-stem Inv-loop μ-loop
+element-copy-out-stem c = search needs
+
+cast-setup : tie.Need-cast-setup Inv-loop μ-loop
+cast-setup c = search needs
+
+setup-requires : tie.Need-setup-requires Inv-loop μ-loop
+setup-requires c κs = search needs
+
+cast-setup-2 : tie.Need-cast-setup-2 Inv-loop μ-loop
+cast-setup-2 c = search needs
+
+setup-requires-2 : tie.Need-setup-requires-2 Inv-loop μ-loop
+setup-requires-2 c κs = search needs
+
+choose-requires : tie.Need-choose-requires Inv-loop μ-loop
+choose-requires c κs = search needs
+
+insert-requires : tie.Need-insert-requires Inv-loop μ-loop
+insert-requires c κs = search needs
+
+add-i-2 : tie.Need-add-i-2 Inv-loop μ-loop
+add-i-2 c = omega (arith, inside (c .before .before .before .before .before .before .before))
+
+loop-less-2 : tie.Need-loop-less-2 Inv-loop μ-loop
+loop-less-2 c = search needs
+
+loop-again-2 : tie.Need-loop-again-2 Inv-loop μ-loop
+unfolding freeTurn
+loop-again-2 c =
+    let s = c .before .before in
+    let e = s .before .before .before in
+    let g = e .before in
+    again (g .before) _ (rw (sym (g .get .ensures), not-false (g .get .result) (e .if1 .left), sym (s .before .setup .ensures), sym (s .setup2 .ensures), sym (c .before .choose .ensures), sym (c .insert .ensures)))
 
 returns : tie.Need-returns Inv-loop μ-loop
 returns c =
     let at = c .before in
-    let s = at .before in
-    left-ends (free-round (s .args .scale) (s .args .initial)) (s .args .t3) _ (at .loop .q) (at .loop .i) (room s) (search needs) (at .loop .inv)
+    let s = at .before .before .before in
+    left-ends (free-round (s .args .scale) (s .args .initial)) (s .args .t3) (s .args .p) _ (at .loop .i) (room s) (search needs) (at .loop .inv)
 
 pub place-free-spec : {M : Type 1} → statement M
 place-free-spec =
@@ -57,10 +109,19 @@ place-free-spec =
     Inv-loop
     μ-loop
     loop-holds
-    mul-stem
-    element-copy-out-stem
-    free-turn-requires
+    get-requires
     add-i
     loop-less
     loop-again
+    mul-stem
+    element-copy-out-stem
+    cast-setup
+    setup-requires
+    cast-setup-2
+    setup-requires-2
+    choose-requires
+    insert-requires
+    add-i-2
+    loop-less-2
+    loop-again-2
     returns)

@@ -1,36 +1,50 @@
 -- `place_locked` meets its contract. The loop's invariant: the turns that are left, taken from stem `i` on, give what all give, and the map keeps within its room.
--- The measure is what is left of the count. Assumes nothing.
-use mathlib.Core.Path.{refl}
-use Prim.Native.Nat.{_-_, _≤_}
+-- What each way through a turn leaves is what the definition's turn gives. The measure is what is left of the count. Assumes nothing.
+use mathlib.Core.Path.{_≡_, refl, sym}
+use Prim.Native.Nat.{_+_, _-_, _≤_, _<_}
 use native.Mathlib.Omega.{arith}
-use lib.ListN.{length, length-map}
+use lib.ListN.{length, getD, length-map}
 use borrow.Author.Needs.{needs}
-use Rattle.build.specs.Place.{lockedTurns}
+use borrow.Author.Tests.{not-true, not-false}
+use Rattle.build.specs.declared.place.Placed.{Placed}
+use Rattle.build.specs.Place.{lockedTurn, lockedTurns}
+use Rattle.build.specs.Build.{noStem}
 use Rattle.build.proofs.Rounds.{Left, locked-round, left-more, left-ends}
 use Rattle.build.proofs.place.place_locked.Statement.{statement}
 use Rattle.build.proofs.place.place_locked.Tie as tie
 
 abbrev Inv-loop : tie.InvT-loop
-Inv-loop state initial given stems q₀ count i₀ q i = Left (lockedTurns state initial given) stems q₀ q i
+Inv-loop state initial given stems map₀ rest₀ count i₀ map rest i =
+    Left (lockedTurns state initial given) stems (record { map = map₀; rest = rest₀ }) (record { map = map; rest = rest }) i
 
 abbrev μ-loop : tie.MeasureT-loop
-μ-loop state initial given stems q₀ count i₀ q i = count - i
+μ-loop state initial given stems map₀ rest₀ count i₀ map rest i = count - i
 
 -- each stem that is declared has its place
 room : (s : tie.Start Inv-loop μ-loop) → s .args .t3 .count ≤ length (s .args .t3 .list)
 room s = omega (arith, simp length-map at (s .good .1 .1 .0 .1 .1 .0 .1 .0 .1))
 
+-- ---- the stem whose turn it is
+module _ (c : tie.In-loop Inv-loop μ-loop) where
+  abbrev start : tie.Start Inv-loop μ-loop
+  start = c .before .before .before .before
+
+  abbrev soFar : Placed
+  soFar = record { map = c .before .loop .map; rest = c .before .loop .rest }
+
+  inside : c .before .loop .i < 96
+  inside = omega arith
+
+  -- whatever its turn leaves, the turns after it are left
+  again : (q : Placed) → lockedTurn (start .args .state) (start .args .initial) (start .args .given) soFar (c .before .loop .i) (getD (start .args .t3 .list) (c .before .loop .i) noStem) ≡ q →
+      Left (lockedTurns (start .args .state) (start .args .initial) (start .args .given)) (start .args .t3) (start .args .p) q (c .before .loop .i + 1)
+  again q = left-more (locked-round (start .args .state) (start .args .initial) (start .args .given)) (start .args .t3) _ soFar q (c .before .loop .i) noStem (room start) (omega arith) (c .before .loop .inv)
+
 loop-holds : tie.Need-loop-holds Inv-loop μ-loop
 loop-holds c = (refl, (search needs, search needs))
 
-mul-stem : tie.Need-mul-stem Inv-loop μ-loop
-mul-stem c = search needs
-
-element-copy-out-stem : tie.Need-element-copy-out-stem Inv-loop μ-loop
-element-copy-out-stem c = search needs
-
-locked-turn-requires : tie.Need-locked-turn-requires Inv-loop μ-loop
-locked-turn-requires c κs = search needs
+get-requires : tie.Need-get-requires Inv-loop μ-loop
+get-requires c κs = search needs
 
 add-i : tie.Need-add-i Inv-loop μ-loop
 add-i c = search needs
@@ -39,16 +53,67 @@ loop-less : tie.Need-loop-less Inv-loop μ-loop
 loop-less c = search needs
 
 loop-again : tie.Need-loop-again Inv-loop μ-loop
+unfolding lockedTurn
 loop-again c =
-    let at = c .before .before .before in
-    let s = at .before in
-    rw (c .locked-turn .ensures) (left-more (locked-round (s .args .state) (s .args .initial) (s .args .given)) (s .args .t3) _ (at .loop .q) (at .loop .i) _ (room s) (search needs) (at .loop .inv))
+    let g = c .before in
+    again (g .before) _ (rw (sym (g .get .ensures), not-true (g .get .result) (c .if1 .taken)))
+
+mul-stem : tie.Need-mul-stem Inv-loop μ-loop
+mul-stem c = search needs
+
+element-copy-out-stem : tie.Need-element-copy-out-stem Inv-loop μ-loop
+element-copy-out-stem c = search needs
+
+cast-ready : tie.Need-cast-ready Inv-loop μ-loop
+cast-ready c = search needs
+
+ready-requires : tie.Need-ready-requires Inv-loop μ-loop
+ready-requires c κs = search needs
+
+add-i-2 : tie.Need-add-i-2 Inv-loop μ-loop
+add-i-2 c = search needs
+
+loop-less-2 : tie.Need-loop-less-2 Inv-loop μ-loop
+loop-less-2 c = search needs
+
+loop-again-2 : tie.Need-loop-again-2 Inv-loop μ-loop
+unfolding lockedTurn
+loop-again-2 c =
+    let r = c .before .before in
+    let e = r .before .before in
+    let g = e .before in
+    again (g .before) _ (rw (sym (g .get .ensures), not-false (g .get .result) (e .if1 .left), sym (r .ready .ensures), not-true (r .ready .result .captured) (c .if2 .taken)))
+
+choose-requires : tie.Need-choose-requires Inv-loop μ-loop
+choose-requires c κs = search needs
+
+insert-requires : tie.Need-insert-requires Inv-loop μ-loop
+insert-requires c κs = search needs
+
+clear-requires : tie.Need-clear-requires Inv-loop μ-loop
+clear-requires c κs = inside (c .before .before .before .before .before .before .before .before .before .before)
+
+add-i-3 : tie.Need-add-i-3 Inv-loop μ-loop
+add-i-3 c = omega (arith, inside (c .before .before .before .before .before .before .before .before .before .before .before))
+
+loop-less-3 : tie.Need-loop-less-3 Inv-loop μ-loop
+loop-less-3 c = search needs
+
+loop-again-3 : tie.Need-loop-again-3 Inv-loop μ-loop
+unfolding lockedTurn
+loop-again-3 c =
+    let o = c .before .before in
+    let f = o .before .before .before in
+    let r = f .before .before in
+    let e = r .before .before in
+    let g = e .before in
+    again (g .before) _ (rw (sym (g .get .ensures), not-false (g .get .result) (e .if1 .left), sym (r .ready .ensures), not-false (r .ready .result .captured) (f .if2 .left), sym (o .choose .ensures), sym (c .before .insert .ensures), sym (c .clear .ensures)))
 
 returns : tie.Need-returns Inv-loop μ-loop
 returns c =
     let at = c .before in
-    let s = at .before in
-    left-ends (locked-round (s .args .state) (s .args .initial) (s .args .given)) (s .args .t3) _ (at .loop .q) (at .loop .i) (room s) (search needs) (at .loop .inv)
+    let s = at .before .before .before in
+    left-ends (locked-round (s .args .state) (s .args .initial) (s .args .given)) (s .args .t3) (s .args .p) _ (at .loop .i) (room s) (search needs) (at .loop .inv)
 
 pub place-locked-spec : {M : Type 1} → statement M
 place-locked-spec =
@@ -57,10 +122,21 @@ place-locked-spec =
     Inv-loop
     μ-loop
     loop-holds
-    mul-stem
-    element-copy-out-stem
-    locked-turn-requires
+    get-requires
     add-i
     loop-less
     loop-again
+    mul-stem
+    element-copy-out-stem
+    cast-ready
+    ready-requires
+    add-i-2
+    loop-less-2
+    loop-again-2
+    choose-requires
+    insert-requires
+    clear-requires
+    add-i-3
+    loop-less-3
+    loop-again-3
     returns)
