@@ -11,6 +11,7 @@ use Rattle.hints.specs.declared.path.Path.{Path}
 use Rattle.hints.specs.declared.path.Drawn.{Drawn}
 use Rattle.hints.specs.Hints.{readyOf}
 use Rattle.hints.specs.Path.{strokeBy, drawnBy, Drew, hasPoint}
+use Rattle.hints.proofs.Steps.{ready-idle}
 use Rattle.drawing.specs.declared.calls.Drawing.{Drawing}
 use Rattle.drawing.specs.declared.calls.After.{After}
 use Rattle.drawing.specs.Calls.{Call, draw, Called, readyFor, hintsOf, strokeOf, afterBy, settledBy}
@@ -35,3 +36,18 @@ module _ (st : HintState) (d : Drawing) where
   -- a call with a point asks for ready hints, and draws by their map
   pub point-hints : (path : Path) → hasPoint path ≡ true → readyOf st (d .hints) ≡ hintsOf st (d .hints) (draw path)
   point-hints path e = ap (λ (b : Bool). readyFor b st (d .hints)) (sym e)
+
+  -- by a valid map the hints stay, and what is drawn is the call: the pen that is left is the stroke's, or as it was
+  pub valid-called : (path : Path) {out left : List ℤ} {w : Drawn} → d .hints .map .«is_valid» ≡ true → Drew (d .hints .map) (st .scale) (d .pen) path out w left →
+      Called st d (draw path) out (record { drawing = record { hints = d .hints; pen = w .pen }; answer = w .answer }) left
+  valid-called path {out} {w = w} v p =
+      drawn-called (draw path) {h = d .hints} (sym (idle (hasPoint path))) (ap (λ (h : Hints). strokeBy (h .map) (st .scale) (d .pen) path) (sym (idle (hasPoint path)))) p
+      (kept (fits (wordsOf (strokeBy (d .hints .map) (st .scale) (d .pen) path .records)) out) (p .answer))
+    where
+      idle : (b : Bool) → readyFor b st (d .hints) ≡ d .hints
+      idle true = ready-idle st (d .hints) v
+      idle false = refl
+
+      kept : (b : Bool) → w ≡ drawnBy b (d .pen) (strokeBy (d .hints .map) (st .scale) (d .pen) path) → record { drawing = record { hints = d .hints; pen = w .pen }; answer = w .answer } ≡ settledBy (w .answer) d (d .hints) (w .pen)
+      kept true e = rw e
+      kept false e = rw e

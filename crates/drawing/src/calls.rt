@@ -91,7 +91,7 @@ fn settle(drawing: Drawing, hints: Hints, drawn: Drawn) -> After
     }
 }
 
-// A call with a point has the current map built first.
+// A call with a point has the current map built first. By a valid one it goes without looking at the hints again.
 fn by_path(state: HintState, drawing: Drawing, path: Path, out: &mut [i32]) -> After
     requires { ⌜ Kept state (drawing .hints) ⌝ }
     requires { ⌜ hasPoint path ≡ true ⌝ }
@@ -99,6 +99,15 @@ fn by_path(state: HintState, drawing: Drawing, path: Path, out: &mut [i32]) -> A
 {
     let hints = drawing.hints;
     let pen = drawing.pen;
+    if hints.map.is_valid {
+        let drawn = draw(hints.map, state.scale, pen, path, out);
+        let next = drawn.pen;
+        let answer = drawn.answer;
+        return After {
+            drawing: Drawing { hints, pen: next },
+            answer,
+        };
+    }
     let ready = hints.ready(state);
     let map = ready.map;
     let drawn = draw(map, state.scale, pen, path, out);
