@@ -34,7 +34,7 @@ use Rattle.commands.specs.Commands.{Placed, readAt, nextAt, commandsFrom, comma
 use Rattle.commands.specs.Faults.{hasBadMask, commandRows}
 use Rattle.commands.proofs.Laws.{first as first-command, none, from-start, faultless, mask-inside}
 use Rattle.run.specs.Room.{Step, fitted}
-use Rattle.run.specs.Run.{markCall, callOf, stepsOf, maskEnd, ranOf, Ended, Runnable, wantsMap}
+use Rattle.run.specs.Run.{markCall, callOf, stepsOf, maskEnd, ranOf, Ended, Runnable, wantsMap, isClose}
 use Rattle.run.proofs.Filling.{Along, begun, following, placed, placed-none, wrote, Stopped, refused, done}
 
 abbrev pub drawingOf : Hints → Pen → Drawing
@@ -66,6 +66,15 @@ mark-still st h pen s from (Mask start len) = refl
 mark-still st h pen s from (Counter start len) = refl
 mark-still st h pen s from Clear = refl
 mark-still st h pen s from Close = refl
+
+-- a close leaves the hints as they are
+pub close-idle : (st : HintState) (h : Hints) (s : List ℕ) (from : ℕ) (m : Marking) → isClose m ≡ true → hintsOf st h (markCall s from m) ≡ h
+close-idle st h s from Bad e = refl
+close-idle st h s from (Stem min max) e = cc
+close-idle st h s from (Mask start len) e = cc
+close-idle st h s from (Counter start len) e = cc
+close-idle st h s from Clear e = cc
+close-idle st h s from Close e = refl
 
 -- ---- a call by the map that the hints have
 module _ (st : HintState) where

@@ -91,3 +91,12 @@ pub record Runnable (st : HintState) (s part : List ℕ) (first n from : ℕ) : 
 abbrev pub wantsMap : Bool → Path → Bool
 wantsMap true p = false
 wantsMap false p = hasPoint p
+
+-- a close, which leaves the hints as they are
+abbrev pub isClose : Marking → Bool
+isClose Bad = false
+isClose (Stem min max) = false
+isClose (Mask start len) = false
+isClose (Counter start len) = false
+isClose Clear = false
+isClose Close = true

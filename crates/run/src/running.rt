@@ -1,6 +1,7 @@
 // The run: commands first to last, each drawing call lent the output from the next free word on.
 use crate::marks::marked;
 use commands::Command;
+use commands::Marking;
 use commands::read_command;
 use hints::Answer;
 use hints::Hints;
@@ -10,7 +11,7 @@ use pen::Pen;
 use zones::HintState;
 ghost use mathlib.Core.Path.{_≡_};
 ghost use Rattle.commands.specs.Commands.{commandsOf};
-ghost use Rattle.run.specs.Run.{wantsMap, ranOf, Ended, Runnable};
+ghost use Rattle.run.specs.Run.{wantsMap, isClose, ranOf, Ended, Runnable};
 
 // How a run ended: the answer, and the record words that were written.
 pub struct Ran {
@@ -30,6 +31,20 @@ fn wants_map(path: Path, valid: bool) -> bool
         Path::Line(_) => true,
         Path::Curve(_, _, _) => true,
         Path::Finish => false,
+    }
+}
+
+// Whether a command is a close, which leaves the hints as they are.
+fn is_close(marking: Marking) -> bool
+    ensures { λ r. ⌜ r ≡ isClose marking ⌝ }
+{
+    match marking {
+        Marking::Bad => false,
+        Marking::Stem(_, _) => false,
+        Marking::Mask { start, len } => false,
+        Marking::Counter { start, len } => false,
+        Marking::Clear => false,
+        Marking::Close => true,
     }
 }
 
@@ -55,6 +70,10 @@ pub fn run(
         let command = read.command;
         match command {
             Command::Mark(marking) => {
+                if is_close(marking) {
+                    at = read.next;
+                    continue;
+                }
                 hints = marked(state, hints, script, from, marking);
                 at = read.next;
             }

@@ -19,7 +19,7 @@ use Rattle.commands.specs.Commands.{readAt, nextAt}
 use Rattle.commands.proofs.Laws.{next-is, lent}
 use Rattle.run.specs.Run.{wantsMap}
 use Rattle.run.proofs.Filling.{back}
-use Rattle.run.proofs.Turns.{Going, going, mask-there, turn-mark, turn-ready, turn-drew, turn-refused, turn-done, ended, unready, unready-one, wanted}
+use Rattle.run.proofs.Turns.{close-idle, Going, going, mask-there, turn-mark, turn-ready, turn-drew, turn-refused, turn-done, ended, unready, unready-one, wanted}
 use Rattle.run.proofs.running.run.Statement.{statement}
 use Rattle.run.proofs.running.run.Tie as tie
 
@@ -79,7 +79,7 @@ module _ (c : tie.After-draw Inv-loop μ-loop) where
   drew = rw (lent (call-turn .loop .out) (call-turn .loop .next)) at (c .draw .ensures)
 
   no-map : wantsMap (call-turn .loop .hints .map .«is_valid») (path (c .before .before .before)) ≡ false
-  no-map = sym (c .before .before .before .wants-map .ensures) ∙ c .before .before .if1 .left
+  no-map = sym (c .before .before .before .wants-map .ensures) ∙ c .before .before .if2 .left
 
   same-out : length (putMid (call-turn .loop .next) (length (call-turn .loop .out) - call-turn .loop .next) (call-turn .loop .out) (c .draw .last .1 .1 .1 .1 .0)) ≡ length (begin call-turn .args .out .now)
   same-out = same-len-mid (call-turn .loop .next) (length (call-turn .loop .out) - call-turn .loop .next) (call-turn .loop .out) (c .draw .last .1 .1 .1 .1 .0) (c .draw .kept .1 .1 .1 .1 .0) ∙ call-turn .loop .inv .along .same
@@ -104,22 +104,40 @@ read-command-requires c κs =
 enum-known-command : tie.Need-enum-known-command Inv-loop μ-loop
 enum-known-command c = search needs
 
+is-close-requires : tie.Need-is-close-requires Inv-loop μ-loop
+is-close-requires c κs = search needs
+
+loop-less : tie.Need-loop-less Inv-loop μ-loop
+loop-less c =
+    let m = c .before .before .before in
+    let r = m .before .before in
+    omega (arith, moved r, r .before .loop-test .taken)
+
+loop-again : tie.Need-loop-again Inv-loop μ-loop
+loop-again c =
+    let m = c .before .before .before in
+    let r = m .before .before in
+    let l = mark-turn m in
+    let a = begin l .args in
+    let e = close-idle (a .state) (l .loop .hints) (a .script .now) (a .from) (m .command .given .0 .0) (sym (c .before .is-close .ensures) ∙ c .if1 .taken) in
+    rw (moved r) (rw e at (turn-mark (a .state) (a .script .now) (a .part .now) (a .first) (a .n) (a .from) (l .loop .inv) (r .before .loop-test .taken) (mark-is m)))
+
 marked-requires : tie.Need-marked-requires Inv-loop μ-loop
 marked-requires c κs =
-    let m = c .before in
+    let m = c .before .before .before in
     let l = mark-turn m in
     let a = begin l .args in
     (l .loop .inv .kept, mask-there (a .state) (a .script .now) (a .part .now) (a .first) (a .n) (a .from) (l .loop .inv) (m .before .before .before .loop-test .taken) (mark-is m))
 
-loop-less : tie.Need-loop-less Inv-loop μ-loop
-loop-less c =
-    let m = c .before .before in
+loop-less-2 : tie.Need-loop-less-2 Inv-loop μ-loop
+loop-less-2 c =
+    let m = c .before .before .before .before in
     let r = m .before .before in
     omega (arith, moved r, r .before .loop-test .taken, unready-one (c .marked .result .map .«is_valid»))
 
-loop-again : tie.Need-loop-again Inv-loop μ-loop
-loop-again c =
-    let m = c .before .before in
+loop-again-2 : tie.Need-loop-again-2 Inv-loop μ-loop
+loop-again-2 c =
+    let m = c .before .before .before .before in
     let r = m .before .before in
     let l = mark-turn m in
     let a = begin l .args in
@@ -134,20 +152,20 @@ wants-map-requires c κs = search needs
 ready-requires : tie.Need-ready-requires Inv-loop μ-loop
 ready-requires c κs = draw-turn (c .before) .loop .inv .kept
 
-loop-less-2 : tie.Need-loop-less-2 Inv-loop μ-loop
-loop-less-2 c =
+loop-less-3 : tie.Need-loop-less-3 Inv-loop μ-loop
+loop-less-3 c =
     let w = c .before .before in
     let l = draw-turn w in
-    let e = wanted (l .loop .hints .map .«is_valid») (path w) (sym (w .wants-map .ensures) ∙ c .before .if1 .taken) in
+    let e = wanted (l .loop .hints .map .«is_valid») (path w) (sym (w .wants-map .ensures) ∙ c .before .if2 .taken) in
     let v = ap (λ (h : Hints). unready (h .map .«is_valid»)) (c .ready .ensures) ∙ ap unready (ready-valid (begin l .args .state) (l .loop .hints)) in
     omega (arith, v, ap unready (e .0))
 
-loop-again-2 : tie.Need-loop-again-2 Inv-loop μ-loop
-loop-again-2 c =
+loop-again-3 : tie.Need-loop-again-3 Inv-loop μ-loop
+loop-again-3 c =
     let w = c .before .before in
     let l = draw-turn w in
     let a = begin l .args in
-    let e = wanted (l .loop .hints .map .«is_valid») (path w) (sym (w .wants-map .ensures) ∙ c .before .if1 .taken) in
+    let e = wanted (l .loop .hints .map .«is_valid») (path w) (sym (w .wants-map .ensures) ∙ c .before .if2 .taken) in
     rw (c .ready .ensures) (turn-ready (a .state) (a .script .now) (a .part .now) (a .first) (a .n) (a .from) (l .loop .inv) (draw-read w .before .loop-test .taken) (draw-is w) (e .1))
 
 mul-draw : tie.Need-mul-draw Inv-loop μ-loop
@@ -173,8 +191,8 @@ enum-known-answer c = search needs
 enum-told : tie.Need-enum-told Inv-loop μ-loop
 enum-told c = search needs
 
-add-t26 : tie.Need-add-t26 Inv-loop μ-loop
-add-t26 c =
+add-t27 : tie.Need-add-t27 Inv-loop μ-loop
+add-t27 c =
     let l = call-turn (c .before .before .before) in
     omega (arith, begin l .pre .start, begin l .pre .short, draw-read (c .before .before .before .before .before .before) .before .loop-test .taken)
 
@@ -198,14 +216,14 @@ add-next c =
     let q = drew-wrote (drew d) (c .before .before .answer .given .0 .0) (c .before .before .answer .given .1) in
     record { fits = omega (arith, q .count, leb-true (length (wordsOf (strokeBy (l .loop .hints .map) (begin l .args .state .scale) (l .loop .pen) (path (d .before .before .before)) .records))) (length (drop (l .loop .next) (l .loop .out))) (q .fit), length-drop (l .loop .next) (l .loop .out), l .loop .inv .along .within, room l, l .loop .inv .along .same) }
 
-loop-less-3 : tie.Need-loop-less-3 Inv-loop μ-loop
-loop-less-3 c =
+loop-less-4 : tie.Need-loop-less-4 Inv-loop μ-loop
+loop-less-4 c =
     let d = c .before .before .before .before .before in
     let r = draw-read (d .before .before .before) in
     omega (arith, moved r, r .before .loop-test .taken)
 
-loop-again-3 : tie.Need-loop-again-3 Inv-loop μ-loop
-loop-again-3 c =
+loop-again-4 : tie.Need-loop-again-4 Inv-loop μ-loop
+loop-again-4 c =
     let d = c .before .before .before .before .before in
     let w = d .before .before .before in
     let l = call-turn d in
@@ -234,14 +252,17 @@ run-spec =
     loop-holds
     read-command-requires
     enum-known-command
-    marked-requires
+    is-close-requires
     loop-less
     loop-again
+    marked-requires
+    loop-less-2
+    loop-again-2
     enum-known-command-2
     wants-map-requires
     ready-requires
-    loop-less-2
-    loop-again-2
+    loop-less-3
+    loop-again-3
     mul-draw
     sub-draw
     part-draw-start
@@ -249,11 +270,11 @@ run-spec =
     draw-requires
     enum-known-answer
     enum-told
-    add-t26
+    add-t27
     same-length
     returns
     add-next
-    loop-less-3
-    loop-again-3
+    loop-less-4
+    loop-again-4
     same-length-2
     returns-2)
