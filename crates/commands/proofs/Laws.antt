@@ -1,6 +1,6 @@
 -- Laws of the commands and of their faults. Assumes nothing.
 use mathlib.Core.Path.{_≡_, refl, sym, ap, _∙_}
-use mathlib.Core.Bool.{Bool, true, false, _||_}
+use mathlib.Core.Bool.{Bool, true, false, cond, _||_}
 use mathlib.Core.List.{List, [], _∷_, _++_}
 use Prim.Native.Nat.{ℕ, zero, suc, _+_, _-_, _≤_, _<_}
 use native.Mathlib.Omega.{arith}
@@ -10,10 +10,12 @@ use lib.Dec.{ltb, leb}
 use borrow.Author.Tests.{lt-ltb, le-ltb, ltb-false}
 use Rattle.words.specs.declared.answer.Answer.{Answer}
 use Rattle.words.specs.declared.answer.Answer.the-variants.{Ok}
-use Rattle.words.specs.Answers.{numberOf, Row, firstOf}
-use Rattle.words.proofs.Rows.{Refusing, none-holds, found, onward, both-ok, is-ok}
+use Rattle.words.specs.Rows.{Row}
+use Rattle.words.specs.Answers.{firstOf, numberOf}
+use Rattle.words.proofs.Rows.{Refusing, none-holds, found, onward}
+use Rattle.words.proofs.Answers.{refusal, is-ok, both-ok}
 use Rattle.commands.specs.declared.reading.Command.{Command}
-use Rattle.commands.specs.Commands.{pick, nextAt, readAt, Placed, commandsFrom, commandsOf}
+use Rattle.commands.specs.Commands.{nextAt, readAt, Placed, commandsFrom, commandsOf}
 use Rattle.commands.specs.Faults.{maskPast, isBad, hasBadMask, faultRows, commandRows}
 
 -- a mask that is not past its bytes ends among them
@@ -27,101 +29,101 @@ mask-inside start len bytes e = ltb-false _ _ (last (leb 2147483648 start) (leb 
     last false false w e = e
 
 -- the word behind a command
-pub next-is : (s : List ℕ) (n i : ℕ) → readAt s n i .next ≡ nextAt s i
+pub next-is : (w : ℕ → ℕ) (n i : ℕ) → readAt w n i .next ≡ nextAt w i
 unfolding readAt
 next-is s n i = refl
 
 -- the commands from word i of n on, where word 0 is word b of the script
-module _ (b : ℕ) (s : List ℕ) (n : ℕ) where
-  pub none : (f i : ℕ) → n ≤ i → commandsFrom f b s n i ≡ []
+module _ (b : ℕ) (w : ℕ → ℕ) (n : ℕ) where
+  pub none : (f i : ℕ) → n ≤ i → commandsFrom f b w n i ≡ []
   unfolding commandsFrom
   none zero i h = refl
   none (suc f) i h = rw (le-ltb i n h)
 
   -- where f commands reach n, more change nothing
-  enough : (f g i : ℕ) → n ≤ i + f → n ≤ i + g → commandsFrom f b s n i ≡ commandsFrom g b s n i
+  enough : (f g i : ℕ) → n ≤ i + f → n ≤ i + g → commandsFrom f b w n i ≡ commandsFrom g b w n i
   unfolding commandsFrom
   enough zero g i h k = sym (none g i (omega arith))
   enough (suc f) zero i h k = none (suc f) i (omega arith)
   enough (suc f) (suc g) i h k =
-      ap (λ (l : List Placed). pick (ltb i n) (record { place = b + i; command = readAt s n i .command } ∷ l) [])
-      (enough f g (nextAt s i) (omega arith) (omega arith))
+      ap (λ (l : List Placed). cond (ltb i n) (record { place = b + i; command = readAt w n i .command } ∷ l) [])
+      (enough f g (nextAt w i) (omega arith) (omega arith))
 
-  pub first : (i : ℕ) → i < n → commandsFrom (n - i) b s n i ≡ record { place = b + i; command = readAt s n i .command } ∷ commandsFrom (n - nextAt s i) b s n (nextAt s i)
+  pub first : (i : ℕ) → i < n → commandsFrom (n - i) b w n i ≡ record { place = b + i; command = readAt w n i .command } ∷ commandsFrom (n - nextAt w i) b w n (nextAt w i)
   unfolding commandsFrom
   first i h =
       let e : n - i ≡ suc (n - (i + 1)) = omega arith in
       rw (e, lt-ltb i n h)
-      (ap (λ (l : List Placed). record { place = b + i; command = readAt s n i .command } ∷ l)
-      (enough (n - (i + 1)) (n - nextAt s i) (nextAt s i) (omega arith) (omega arith)))
+      (ap (λ (l : List Placed). record { place = b + i; command = readAt w n i .command } ∷ l)
+      (enough (n - (i + 1)) (n - nextAt w i) (nextAt w i) (omega arith) (omega arith)))
 
-  pub from-start : commandsOf b s n ≡ commandsFrom (n - 0) b s n 0
+  pub from-start : commandsOf b w n ≡ commandsFrom (n - 0) b w n 0
   unfolding commandsOf
   from-start =
       let e : n ≡ n - 0 = omega arith in
-      ap (λ (f : ℕ). commandsFrom f b s n 0) e
+      ap (λ (f : ℕ). commandsFrom f b w n 0) e
 
   -- f words hold at most f commands
-  at-most-from : (f i : ℕ) → length (commandsFrom f b s n i) ≤ f
+  at-most-from : (f i : ℕ) → length (commandsFrom f b w n i) ≤ f
   unfolding commandsFrom
   at-most-from zero i = omega arith
-  at-most-from (suc f) i = by (ltb i n) (at-most-from f (nextAt s i))
+  at-most-from (suc f) i = by (ltb i n) (at-most-from f (nextAt w i))
     where
-      by : (t : Bool) → length (commandsFrom f b s n (nextAt s i)) ≤ f → length (pick t (record { place = b + i; command = readAt s n i .command } ∷ commandsFrom f b s n (nextAt s i)) []) ≤ suc f
+      by : (t : Bool) → length (commandsFrom f b w n (nextAt w i)) ≤ f → length (cond t (record { place = b + i; command = readAt w n i .command } ∷ commandsFrom f b w n (nextAt w i)) []) ≤ suc f
       by true h = omega arith
       by false h = omega arith
 
-  pub at-most : length (commandsOf b s n) ≤ n
+  pub at-most : length (commandsOf b w n) ≤ n
   unfolding commandsOf
   at-most = at-most-from n 0
 
   -- their tests
-  pub rows-first : (bytes i : ℕ) → i < n → commandRows bytes (commandsFrom (n - i) b s n i) ≡ faultRows bytes (b + i) (readAt s n i .command) ++ commandRows bytes (commandsFrom (n - nextAt s i) b s n (nextAt s i))
+  pub rows-first : (bytes i : ℕ) → i < n → commandRows bytes (commandsFrom (n - i) b w n i) ≡ faultRows bytes (b + i) (readAt w n i .command) ++ commandRows bytes (commandsFrom (n - nextAt w i) b w n (nextAt w i))
   unfolding commandRows
   rows-first bytes i h = ap (commandRows bytes) (first i h)
 
-  pub rows-none : (bytes i : ℕ) → n ≤ i → commandRows bytes (commandsFrom (n - i) b s n i) ≡ []
+  pub rows-none : (bytes i : ℕ) → n ≤ i → commandRows bytes (commandsFrom (n - i) b w n i) ≡ []
   unfolding commandRows
   rows-none bytes i h = ap (commandRows bytes) (none (n - i) i h)
 
 -- every test refuses
-faults-refusing : (bytes place : ℕ) (c : Command) → Refusing (faultRows bytes place c)
-faults-refusing bytes place c zero h = omega arith
-faults-refusing bytes place c (suc zero) h = omega arith
+faults-refusing : (bytes place : ℕ) (c : Command) → Refusing Ok (faultRows bytes place c)
+faults-refusing bytes place c zero h = refusal (omega arith)
+faults-refusing bytes place c (suc zero) h = refusal (omega arith)
 faults-refusing bytes place c (suc (suc j)) h = absurd (no h)
   where
     no : suc (suc j) < 2 → ⊥
     no h = omega arith
 
-pub rows-refusing : (bytes : ℕ) (cs : List Placed) → Refusing (commandRows bytes cs)
+pub rows-refusing : (bytes : ℕ) (cs : List Placed) → Refusing Ok (commandRows bytes cs)
 unfolding commandRows
 rows-refusing bytes [] j h = absurd (no h)
   where
     no : j < 0 → ⊥
     no h = omega arith
-rows-refusing bytes (c ∷ cs) zero h = omega arith
-rows-refusing bytes (c ∷ cs) (suc zero) h = omega arith
+rows-refusing bytes (c ∷ cs) zero h = refusal (omega arith)
+rows-refusing bytes (c ∷ cs) (suc zero) h = refusal (omega arith)
 rows-refusing bytes (c ∷ cs) (suc (suc j)) h = rows-refusing bytes cs j (omega arith)
 
 -- where the answer is Ok, a command is neither bad nor has a bad mask, and the tests behind it answer Ok
-passes : (bytes place : ℕ) (c : Command) (rs : List Row) → firstOf (faultRows bytes place c ++ rs) ≡ Ok → (isBad c ≡ false) × ((hasBadMask bytes c ≡ false) × (firstOf rs ≡ Ok))
+passes : (bytes place : ℕ) (c : Command) (rs : List (Row Answer)) → firstOf (faultRows bytes place c ++ rs) ≡ Ok → (isBad c ≡ false) × ((hasBadMask bytes c ≡ false) × (firstOf rs ≡ Ok))
 passes bytes place c rs e =
     let b = both-ok (faultRows bytes place c) rs (faults-refusing bytes place c) e in
-    let f = none-holds (faultRows bytes place c) (faults-refusing bytes place c) (b .0) in
+    let f = none-holds Ok (faultRows bytes place c) (faults-refusing bytes place c) (b .0) in
     (f 0, (f 1, b .1))
 
 -- at a command that is there
-module _ (b : ℕ) (s : List ℕ) (n bytes i : ℕ) (h : i < n) where
-  pub faultless : firstOf (commandRows bytes (commandsFrom (n - i) b s n i)) ≡ Ok → (isBad (readAt s n i .command) ≡ false) × ((hasBadMask bytes (readAt s n i .command) ≡ false) × (firstOf (commandRows bytes (commandsFrom (n - nextAt s i) b s n (nextAt s i))) ≡ Ok))
-  faultless e = passes bytes (b + i) (readAt s n i .command) _ (sym (ap firstOf (rows-first b s n bytes i h)) ∙ e)
+module _ (b : ℕ) (w : ℕ → ℕ) (n bytes i : ℕ) (h : i < n) where
+  pub faultless : firstOf (commandRows bytes (commandsFrom (n - i) b w n i)) ≡ Ok → (isBad (readAt w n i .command) ≡ false) × ((hasBadMask bytes (readAt w n i .command) ≡ false) × (firstOf (commandRows bytes (commandsFrom (n - nextAt w i) b w n (nextAt w i))) ≡ Ok))
+  faultless e = passes bytes (b + i) (readAt w n i .command) _ (sym (ap firstOf (rows-first b w n bytes i h)) ∙ e)
 
   -- its fault is the answer
-  pub fault-here : (f : Answer) → f ≡ firstOf (faultRows bytes (b + i) (readAt s n i .command)) → 0 < numberOf f → f ≡ firstOf (commandRows bytes (commandsFrom (n - i) b s n i))
-  fault-here f g k = g ∙ sym (ap firstOf (rows-first b s n bytes i h) ∙ found _ _ (rw g at k))
+  pub fault-here : (f : Answer) → f ≡ firstOf (faultRows bytes (b + i) (readAt w n i .command)) → 0 < numberOf f → f ≡ firstOf (commandRows bytes (commandsFrom (n - i) b w n i))
+  fault-here f g k = g ∙ sym (ap firstOf (rows-first b w n bytes i h) ∙ found Ok _ _ (refusal (rw g at k)))
 
   -- and where it has none the commands behind it give it
-  pub fault-behind : (f : Answer) → f ≡ firstOf (faultRows bytes (b + i) (readAt s n i .command)) → numberOf f ≡ 0 → firstOf (commandRows bytes (commandsFrom (n - i) b s n i)) ≡ firstOf (commandRows bytes (commandsFrom (n - nextAt s i) b s n (nextAt s i)))
-  fault-behind f g k = ap firstOf (rows-first b s n bytes i h) ∙ onward _ _ (faults-refusing bytes (b + i) (readAt s n i .command)) (sym g ∙ is-ok f k)
+  pub fault-behind : (f : Answer) → f ≡ firstOf (faultRows bytes (b + i) (readAt w n i .command)) → numberOf f ≡ 0 → firstOf (commandRows bytes (commandsFrom (n - i) b w n i)) ≡ firstOf (commandRows bytes (commandsFrom (n - nextAt w i) b w n (nextAt w i)))
+  fault-behind f g k = ap firstOf (rows-first b w n bytes i h) ∙ onward Ok _ _ (faults-refusing bytes (b + i) (readAt w n i .command)) (sym g ∙ is-ok f k)
 
 -- the part of a slice that is lent from i on is the rest of it
 pub lent : {A : Type 0} (s : List A) (i : ℕ) → take (length s - i) (drop i s) ≡ drop i s

@@ -1,11 +1,11 @@
 -- What is wrong with a command (01's table, BAD_COMMAND and BAD_MASK).
-use mathlib.Core.Bool.{Bool, true, false, _||_}
+use mathlib.Core.Bool.{Bool, true, false, cond, _||_}
 use mathlib.Core.List.{List, [], _∷_, _++_}
 use Prim.Native.Nat.{ℕ, _+_, _^_}
 use lib.Dec.{ltb, leb}
 use Rattle.words.specs.declared.answer.Answer.{Answer}
 use Rattle.words.specs.declared.answer.Answer.the-variants.{Ok, BadCommand, BadMask}
-use Rattle.words.specs.Answers.{Row, row, pickAnswer}
+use Rattle.words.specs.Rows.{Row, row}
 use Rattle.commands.specs.declared.reading.Marking.the-variants.{Bad, Stem, Mask, Counter, Clear, Close}
 use Rattle.commands.specs.declared.reading.Command.{Command}
 use Rattle.commands.specs.declared.reading.Command.the-variants.{Mark, Draw}
@@ -16,7 +16,7 @@ unfoldable pub maskPast : ℕ → ℕ → ℕ → Bool
 maskPast start len bytes = leb (2 ^ 31) start || (leb (2 ^ 31) len || ltb bytes (start + len))
 
 abbrev pub maskAnswer : ℕ → ℕ → ℕ → ℕ → Answer
-maskAnswer start len bytes place = pickAnswer (maskPast start len bytes) (BadMask place) Ok
+maskAnswer start len bytes place = cond (maskPast start len bytes) (BadMask place) Ok
 
 -- kind outside 1 to 9, or operands cut off
 abbrev pub isBad : Command → Bool
@@ -38,9 +38,9 @@ hasBadMask bytes (Mark Close) = false
 hasBadMask bytes (Draw p) = false
 
 -- the tests of a command, and of the commands first to last
-abbrev pub faultRows : ℕ → ℕ → Command → List Row
+abbrev pub faultRows : ℕ → ℕ → Command → List (Row Answer)
 faultRows bytes place c = row (isBad c) (BadCommand place) ∷ row (hasBadMask bytes c) (BadMask place) ∷ []
 
-unfoldable pub commandRows : ℕ → List Placed → List Row
+unfoldable pub commandRows : ℕ → List Placed → List (Row Answer)
 commandRows bytes [] = []
 commandRows bytes (c ∷ cs) = faultRows bytes (c .place) (c .command) ++ commandRows bytes cs

@@ -6,6 +6,7 @@ use words::Answer;
 ghost use mathlib.Core.Path.{_≡_};
 ghost use Prim.Native.Nat.{_+_, _*_, _≤_};
 ghost use lib.ListN.{length, drop};
+ghost use Rattle.words.specs.Words.{rawAt};
 ghost use Rattle.words.specs.Answers.{firstOf};
 ghost use Rattle.commands.specs.Commands.{commandsOf};
 ghost use Rattle.commands.specs.Faults.{maskPast, maskAnswer, faultRows, commandRows};
@@ -49,7 +50,7 @@ fn fault_in(command: Command, bytes: usize, place: usize) -> Answer
 // The first fault among the commands of a part, the first of which is word `first` of the script.
 fn check_part(part: &[u8], first: usize, n: usize, bytes: usize) -> Answer
     requires { ⌜ (4 * n ≤ length (now part)) × ((first ≤ 16384) × ((n ≤ 16384) × (bytes ≤ 65536))) ⌝ }
-    ensures { λ r. ⌜ r ≡ firstOf (commandRows bytes (commandsOf first (now (part .entry)) n)) ⌝ }
+    ensures { λ r. ⌜ r ≡ firstOf (commandRows bytes (commandsOf first (rawAt (now (part .entry))) n)) ⌝ }
 {
     let mut at = 0;
     while at < n {
@@ -67,7 +68,7 @@ fn check_part(part: &[u8], first: usize, n: usize, bytes: usize) -> Answer
 // The same over a whole script, whose `n` command words start at word `first`.
 pub fn check_commands(script: &[u8], first: usize, n: usize, bytes: usize) -> Answer
     requires { ⌜ (4 * (first + n) ≤ length (now script)) × ((length (now script) ≤ 65536) × (bytes ≤ 65536)) ⌝ }
-    ensures { λ r. ⌜ r ≡ firstOf (commandRows bytes (commandsOf first (drop (4 * first) (now (script .entry))) n)) ⌝ }
+    ensures { λ r. ⌜ r ≡ firstOf (commandRows bytes (commandsOf first (rawAt (drop (4 * first) (now (script .entry)))) n)) ⌝ }
 {
     let at = 4 * first;
     check_part(&script[at..], first, n, bytes)

@@ -8,6 +8,7 @@ use words::raw;
 ghost use mathlib.Core.Path.{_≡_};
 ghost use Prim.Native.Nat.{_+_, _*_, _≤_, _<_};
 ghost use lib.ListN.{length};
+ghost use Rattle.words.specs.Words.{rawAt};
 ghost use Rattle.commands.specs.Commands.{operandsOf, pointAt, commandOf, readAt};
 
 // A command that writes nothing: what it asks of the hints. A script with a bad one is refused before it is run.
@@ -48,7 +49,7 @@ fn operands(kind: usize) -> usize
 
 fn point(part: &[u8], at: usize) -> Point
     requires { ⌜ 4 * at + 8 ≤ length (now part) ⌝ }
-    ensures { λ r. ⌜ r ≡ pointAt (now (part .entry)) at ⌝ }
+    ensures { λ r. ⌜ r ≡ pointAt (rawAt (now (part .entry))) at ⌝ }
 {
     let x = number(part, at);
     let y = number(part, at + 1);
@@ -58,7 +59,7 @@ fn point(part: &[u8], at: usize) -> Point
 // The command of a kind at word `at` of the part, all of whose operands are there.
 fn command_of(part: &[u8], at: usize, kind: usize) -> Command
     requires { ⌜ (4 * (at + 1 + operandsOf kind) ≤ length (now part)) × (at < 16384) ⌝ }
-    ensures { λ r. ⌜ r ≡ commandOf (now (part .entry)) at kind ⌝ }
+    ensures { λ r. ⌜ r ≡ commandOf (rawAt (now (part .entry))) at kind ⌝ }
 {
     let first = at + 1;
     let second = at + 2;
@@ -96,7 +97,7 @@ fn command_of(part: &[u8], at: usize, kind: usize) -> Command
 // The command at word `at` of the part, whose first `n` words are the command words.
 pub fn read_command(part: &[u8], n: usize, at: usize) -> Read
     requires { ⌜ (4 * n ≤ length (now part)) × ((n ≤ 16384) × (at < n)) ⌝ }
-    ensures { λ r. ⌜ r ≡ readAt (now (part .entry)) n at ⌝ }
+    ensures { λ r. ⌜ r ≡ readAt (rawAt (now (part .entry))) n at ⌝ }
 {
     let kind = natural(part, at);
     let next = at + 1 + operands(kind);

@@ -34,18 +34,18 @@ pub record Fine (s : List ℕ) : Type 0 where
 
 module _ (s : List ℕ) where
   -- every test refuses
-  pub header-refusing : Refusing (headerRows s)
+  pub header-refusing : Refusing Ok (headerRows s)
   unfolding headerRows
   header-refusing = refusing (headerRows s) refl
 
-  pub params-refusing : Refusing (paramRows s)
+  pub params-refusing : Refusing Ok (paramRows (rawAt s))
   unfolding paramRows
-  params-refusing = refusing (paramRows s) refl
+  params-refusing = refusing (paramRows (rawAt s)) refl
 
   pub fine : firstOf (headerRows s) ≡ Ok → Fine s
   unfolding headerRows
   fine e =
-      let f = none-holds (headerRows s) header-refusing e in
+      let f = none-holds Ok (headerRows s) header-refusing e in
       let n = long (length s) (f 0) in
       let p3 = both-false (ltb (rawAt s 3) 8) (ltb 64 (rawAt s 3)) (f 3) in
       let least = ltb-false (rawAt s 3) 8 (p3 .0) in
@@ -58,11 +58,11 @@ module _ (s : List ℕ) where
       let bytes = alike (rawAt s 6 + padded (rawAt s 7)) (length s / 4) (p7 .1) in
       record { enough = omega arith; short = n .1; least = least; most = most; commands = commands; ends = omega arith; masks = masks; bytes = omega arith }
 
-  pub whole : Fine s → firstOf (paramRows s) ≡ Ok → Whole s
+  pub whole : Fine s → firstOf (paramRows (rawAt s)) ≡ Ok → Whole s
   unfolding paramRows
   whole h e =
-      let f = none-holds (paramRows s) params-refusing e in
-      let pairs = alike (rawAt s 3) (8 + 2 * pairsIn s) (f 5) in
+      let f = none-holds Ok (paramRows (rawAt s)) params-refusing e in
+      let pairs = alike (rawAt s 3) (8 + 2 * pairsIn (rawAt s)) (f 5) in
       record {
         blues = ltb-false 7 (rawAt s 12) (f 1);
         others = ltb-false 7 (rawAt s 13) (f 2);
@@ -71,14 +71,14 @@ module _ (s : List ℕ) where
         there = omega arith;
       }
 
-  pub counted : Whole s → Counted (paramsOf s)
+  pub counted : Whole s → Counted (paramsOf (rawAt s))
   unfolding paramsOf bluesAt
   counted w = record { blues = w .blues; others = w .others; family = w .family; familyOthers = w .familyOthers }
 
-  pub scaled : firstOf (paramRows s) ≡ Ok → pos 0 <ℤ numberAt s 1 .bits
+  pub scaled : firstOf (paramRows (rawAt s)) ≡ Ok → pos 0 <ℤ numberAt (rawAt s) 1 .bits
   unfolding paramRows
   scaled e =
-      let t : lessF (numberAt s 1) (fromBits (pos 1)) ≡ false = none-holds (paramRows s) params-refusing e 0 in
+      let t : lessF (numberAt (rawAt s) 1) (fromBits (pos 1)) ≡ false = none-holds Ok (paramRows (rawAt s)) params-refusing e 0 in
       omega heights
 
 -- ---- a word is negative exactly if it is 2^31 or more as a natural

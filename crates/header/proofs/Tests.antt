@@ -7,8 +7,12 @@ use native.Mathlib.Omega.{arith}
 use lib.Dec.{eqb, ltb}
 use lib.ListN.{drop}
 use borrow.Author.Tests.{lt-ltb, le-ltb, lt-leb, eq-eqb, ne-eqb, ltb-true, ltb-false, eqb-true, not-false}
-use Rattle.words.specs.Answers.{numberOf, Row, firstOf, rowAt}
+use Rattle.words.specs.declared.answer.Answer.{Answer}
+use Rattle.words.specs.declared.answer.Answer.the-variants.{Ok}
+use Rattle.words.specs.Rows.{Row, rowAt}
+use Rattle.words.specs.Answers.{firstOf, numberOf}
 use Rattle.words.proofs.Rows.{hit, skip, Refusing}
+use Rattle.words.proofs.Answers.{refusal}
 use Rattle.header.specs.Header.{differs, negative, outside, lengthBad}
 
 both-true : (a b : Bool) → (a && b) ≡ true → (a ≡ true) × (b ≡ true)
@@ -16,24 +20,24 @@ both-true true b e = (refl, e)
 both-true false b e = absurd (true≢false (sym e))
 
 -- the first k tests do not hold
-pub record Past (rs : List Row) (k : ℕ) : Type 0 where
+pub record Past (rs : List (Row Answer)) (k : ℕ) : Type 0 where
   pub rest : firstOf rs ≡ firstOf (drop k rs)
 
-pub pass : {rs : List Row} (k : ℕ) → Past rs k → rowAt rs k .fault ≡ false → Past rs (suc k)
-pass {rs} k p e = record { rest = p .rest ∙ skip rs k e }
+pub pass : {rs : List (Row Answer)} (k : ℕ) → Past rs k → rowAt Ok rs k .fault ≡ false → Past rs (suc k)
+pass {rs} k p e = record { rest = p .rest ∙ skip Ok rs k e }
 
 -- and the next one does
-pub stop : {rs : List Row} (k : ℕ) → Past rs k → rowAt rs k .fault ≡ true → rowAt rs k .said ≡ firstOf rs
-stop {rs} k p e = sym (p .rest ∙ hit rs k e)
+pub stop : {rs : List (Row Answer)} (k : ℕ) → Past rs k → rowAt Ok rs k .fault ≡ true → rowAt Ok rs k .said ≡ firstOf rs
+stop {rs} k p e = sym (p .rest ∙ hit Ok rs k e)
 
 -- ---- tests that all refuse, by computation
-abbrev pub refuses : List Row → Bool
+abbrev pub refuses : List (Row Answer) → Bool
 refuses [] = true
 refuses (r ∷ rs) = ltb 0 (numberOf (r .said)) && refuses rs
 
-pub refusing : (rs : List Row) → refuses rs ≡ true → Refusing rs
+pub refusing : (rs : List (Row Answer)) → refuses rs ≡ true → Refusing Ok rs
 refusing [] h k l = absurd (omega arith)
-refusing (r ∷ rs) h zero l = ltb-true 0 (numberOf (r .said)) (both-true (ltb 0 (numberOf (r .said))) (refuses rs) h .0)
+refusing (r ∷ rs) h zero l = refusal (ltb-true 0 (numberOf (r .said)) (both-true (ltb 0 (numberOf (r .said))) (refuses rs) h .0))
 refusing (r ∷ rs) h (suc k) l = refusing rs (both-true (ltb 0 (numberOf (r .said))) (refuses rs) h .1) k (omega arith)
 
 -- ---- either of two tests

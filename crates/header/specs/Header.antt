@@ -4,9 +4,10 @@ use mathlib.Core.List.{List, [], _∷_}
 use Prim.Native.Nat.{ℕ, _+_, _*_, _/_, _%_, _^_}
 use lib.Dec.{eqb, ltb, leb}
 use lib.ListN.{length, drop}
+use Rattle.words.specs.declared.answer.Answer.{Answer}
 use Rattle.words.specs.declared.answer.Answer.the-variants.{BadScript}
 use Rattle.words.specs.Words.{rawAt}
-use Rattle.words.specs.Answers.{Row, row}
+use Rattle.words.specs.Rows.{Row, row}
 
 abbrev pub differs : ℕ → ℕ → Bool
 differs a b = not (eqb a b)
@@ -30,7 +31,7 @@ abbrev pub padded : ℕ → ℕ
 padded n = (n + 3) / 4
 
 -- the tests, in 01's order
-unfoldable pub headerRows : List ℕ → List Row
+unfoldable pub headerRows : List ℕ → List (Row Answer)
 headerRows s =
     row (lengthBad (length s)) (BadScript 0) ∷
     row (differs (rawAt s 0) 1) (BadScript 0) ∷

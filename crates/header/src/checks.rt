@@ -5,6 +5,7 @@ use words::number;
 ghost use mathlib.Core.Path.{_≡_};
 ghost use Prim.Native.Nat.{_≤_};
 ghost use lib.ListN.{length, drop};
+ghost use Rattle.words.specs.Words.{rawAt};
 ghost use Rattle.words.specs.Answers.{firstOf};
 ghost use Rattle.header.specs.Header.{lengthBad, allZero, headerRows};
 ghost use Rattle.header.specs.Params.{paramRows};
@@ -81,7 +82,7 @@ pub fn check_header(script: &[u8]) -> Answer
 // The scale, the four counts, and the number of parameters against the pairs.
 pub fn check_params(script: &[u8]) -> Answer
     requires { ⌜ 64 ≤ length (now script) ⌝ }
-    ensures { λ r. ⌜ r ≡ firstOf (paramRows (now (script .entry))) ⌝ }
+    ensures { λ r. ⌜ r ≡ firstOf (paramRows (rawAt (now (script .entry)))) ⌝ }
 {
     if number(script, 1).bits < 1 {
         return Answer::BadScale;

@@ -9,11 +9,12 @@ use zones::HintParams;
 ghost use mathlib.Core.Path.{_≡_};
 ghost use Prim.Native.Nat.{_+_, _*_, _≤_, _<_};
 ghost use lib.ListN.{length};
+ghost use Rattle.words.specs.Words.{rawAt};
 ghost use Rattle.header.specs.Params.{pairAt, pushedPair, bluesAt, paramsOf, Whole};
 
 fn pair(script: &[u8], at: usize) -> Blue
     requires { ⌜ 4 * at + 8 ≤ length (now script) ⌝ }
-    ensures { λ r. ⌜ r ≡ pairAt (now (script .entry)) at ⌝ }
+    ensures { λ r. ⌜ r ≡ pairAt (rawAt (now (script .entry))) at ⌝ }
 {
     let bottom = number(script, at);
     let top = number(script, at + 1);
@@ -35,7 +36,7 @@ fn with_pair(blues: Blues, given: Blue) -> Blues
 // So many pairs from a word on.
 fn read_blues(script: &[u8], at: usize, count: usize) -> Blues
     requires { ⌜ (count ≤ 7) × (4 * (at + 2 * count) ≤ length (now script)) ⌝ }
-    ensures { λ r. ⌜ r ≡ bluesAt (now (script .entry)) at count ⌝ }
+    ensures { λ r. ⌜ r ≡ bluesAt (rawAt (now (script .entry))) at count ⌝ }
 {
     let none = Blue {
         bottom: Fixed::ZERO,
@@ -54,7 +55,7 @@ fn read_blues(script: &[u8], at: usize, count: usize) -> Blues
 // The parameters, in the order in which the script has them.
 pub fn read_params(script: &[u8]) -> HintParams
     requires { ⌜ Whole (now script) ⌝ }
-    ensures { λ r. ⌜ r ≡ paramsOf (now (script .entry)) ⌝ }
+    ensures { λ r. ⌜ r ≡ paramsOf (rawAt (now (script .entry))) ⌝ }
 {
     let blues = natural(script, 12);
     let others = natural(script, 13);

@@ -27,7 +27,7 @@ lent fill (suc k) out = set (lent fill k out) k (lentWord fill k .bits)
 -- ---- the words that are left
 -- whether word i is the stored one
 abbrev pub agrees : List ℤ → List ℕ → ℕ → Bool
-agrees out stored i = sameF (fromBits (getD out i (pos 0))) (numberAt stored i)
+agrees out stored i = sameF (fromBits (getD out i (pos 0))) (numberAt (rawAt stored) i)
 
 abbrev pub pickPlace : Bool → ℕ → ℕ → ℕ
 pickPlace true i j = i

@@ -99,13 +99,13 @@ module _ (st : HintState) where
 module _ (st : HintState) (s part : List ℕ) (first n from : ℕ) where
   -- the commands from word at on, and the words that they write
   abbrev commandsAt : ℕ → List Placed
-  commandsAt at = commandsFrom (n - at) first part n at
+  commandsAt at = commandsFrom (n - at) first (rawAt part) n at
 
   abbrev stepsAt : Hints → Pen → ℕ → List Step
   stepsAt h pen at = stepsOf st s from (drawingOf h pen) (commandsAt at)
 
   unfoldable pub allSteps : List Step
-  allSteps = stepsOf st s from (newDrawing (st .scale)) (commandsOf first part n)
+  allSteps = stepsOf st s from (newDrawing (st .scale)) (commandsOf first (rawAt part) n)
 
   pub record Going (out₀ : List ℤ) (h : Hints) (pen : Pen) (next at : ℕ) (out : List ℤ) : Type 0 where
     pub kept : Kept st h
@@ -128,12 +128,12 @@ module _ (st : HintState) (s part : List ℕ) (first n from : ℕ) where
       }
 
   -- the words of the command at a word, and the commands behind it
-  module _ (h : Hints) (pen : Pen) {at : ℕ} (i : at < n) {c : Command} (e : readAt part n at .command ≡ c) where
-    steps-first : (t : Stroke) (k : Hints) → strokeOf st h pen (callOf s from c) ≡ t → hintsOf st h (callOf s from c) ≡ k → stepsAt h pen at ≡ record { place = first + at; words = wordsOf (t .records) } ∷ stepsAt k (t .pen) (nextAt part at)
+  module _ (h : Hints) (pen : Pen) {at : ℕ} (i : at < n) {c : Command} (e : readAt (rawAt part) n at .command ≡ c) where
+    steps-first : (t : Stroke) (k : Hints) → strokeOf st h pen (callOf s from c) ≡ t → hintsOf st h (callOf s from c) ≡ k → stepsAt h pen at ≡ record { place = first + at; words = wordsOf (t .records) } ∷ stepsAt k (t .pen) (nextAt (rawAt part) at)
     unfolding stepsOf
     steps-first t k f q =
         let d = drawingOf h pen in
-        let behind = commandsAt (nextAt part at) in
+        let behind = commandsAt (nextAt (rawAt part) at) in
         ap (stepsOf st s from d) (first-command first part n at i) ∙
         ap (λ (x : Command). record { place = first + at; words = wordsFor st d (callOf s from x) } ∷ stepsOf st s from (nextOf st d (callOf s from x)) behind) e ∙
         ap (λ (x : Stroke). record { place = first + at; words = wordsOf (x .records) } ∷ stepsOf st s from (drawingOf (hintsOf st h (callOf s from c)) (x .pen)) behind) f ∙
@@ -141,7 +141,7 @@ module _ (st : HintState) (s part : List ℕ) (first n from : ℕ) where
 
   module _ {out₀ : List ℤ} {h : Hints} {pen : Pen} {next at : ℕ} {out : List ℤ} (g : Going out₀ h pen next at out) (i : at < n) where
     -- a command whose words fit
-    turned : {c : Command} → readAt part n at .command ≡ c → (t : Stroke) (k : Hints) → strokeOf st h pen (callOf s from c) ≡ t → hintsOf st h (callOf s from c) ≡ k → Kept st k → fits (wordsOf (t .records)) (drop next out) ≡ true → Going out₀ k (t .pen) (next + length (wordsOf (t .records))) (nextAt part at) (placed next (wordsOf (t .records)) out)
+    turned : {c : Command} → readAt (rawAt part) n at .command ≡ c → (t : Stroke) (k : Hints) → strokeOf st h pen (callOf s from c) ≡ t → hintsOf st h (callOf s from c) ≡ k → Kept st k → fits (wordsOf (t .records)) (drop next out) ≡ true → Going out₀ k (t .pen) (next + length (wordsOf (t .records))) (nextAt (rawAt part) at) (placed next (wordsOf (t .records)) out)
     turned e t k f q l r =
         record {
           kept = l;
@@ -152,19 +152,19 @@ module _ (st : HintState) (s part : List ℕ) (first n from : ℕ) where
         }
 
     -- the mask that a command names lies in the script
-    pub mask-there : {m : Marking} → readAt part n at .command ≡ Mark m → from + maskEnd m ≤ length s
+    pub mask-there : {m : Marking} → readAt (rawAt part) n at .command ≡ Mark m → from + maskEnd m ≤ length s
     mask-there {m} e =
         let b = faultless first part n (g .bytes) at i (g .fine) .1 .0 in
         omega (arith, g .inside, end-inside (g .bytes) m (ap (hasBadMask (g .bytes)) (sym e) ∙ b))
 
     -- a command that writes nothing
-    pub turn-mark : {m : Marking} → readAt part n at .command ≡ Mark m → Going out₀ (hintsOf st h (markCall s from m)) pen next (nextAt part at) out
+    pub turn-mark : {m : Marking} → readAt (rawAt part) n at .command ≡ Mark m → Going out₀ (hintsOf st h (markCall s from m)) pen next (nextAt (rawAt part) at) out
     turn-mark {m} e =
         let r = turned e (still pen) (hintsOf st h (markCall s from m)) (mark-still st h pen s from m) refl (kept-mark st h (g .kept) s from m) (le-leb 0 (length (drop next out)) (omega arith)) in
         rw (add-zero, placed-none) at r
 
     -- a call that wants a map: hints that are ready stand as these do
-    pub turn-ready : {path : Path} → readAt part n at .command ≡ Draw path → hasPoint path ≡ true → Going out₀ (readyOf st h) pen next at out
+    pub turn-ready : {path : Path} → readAt (rawAt part) n at .command ≡ Draw path → hasPoint path ≡ true → Going out₀ (readyOf st h) pen next at out
     turn-ready {path} e w =
         let q = ready-hints st h path w in
         let f = same-stroke st (readyOf st h) pen path q in
@@ -178,7 +178,7 @@ module _ (st : HintState) (s part : List ℕ) (first n from : ℕ) where
           fine = g .fine;
         }
 
-    module _ {path : Path} (e : readAt part n at .command ≡ Draw path) (w : wantsMap (h .map .«is_valid») path ≡ false) where
+    module _ {path : Path} (e : readAt (rawAt part) n at .command ≡ Draw path) (w : wantsMap (h .map .«is_valid») path ≡ false) where
       idle : hintsOf st h (draw path) ≡ h
       idle = idle-hints st h (h .map .«is_valid») refl path w
 
@@ -186,7 +186,7 @@ module _ (st : HintState) (s part : List ℕ) (first n from : ℕ) where
       by-map = same-stroke st h pen path idle
 
       -- a call that wrote its words
-      pub turn-drew : {said : Drawn} {k : ℕ} {exit : List ℤ} → DrewWords (h .map) (st .scale) pen path (drop next out) said k exit → Going out₀ h (said .pen) (next + k) (nextAt part at) (take next out ++ exit)
+      pub turn-drew : {said : Drawn} {k : ℕ} {exit : List ℤ} → DrewWords (h .map) (st .scale) pen path (drop next out) said k exit → Going out₀ h (said .pen) (next + k) (nextAt (rawAt part) at) (take next out ++ exit)
       turn-drew d =
           let r = turned e (strokeBy (h .map) (st .scale) pen path) h by-map idle (g .kept) (d .fit) in
           rw (d .pen, d .count, d .left) r
@@ -201,7 +201,7 @@ module _ (st : HintState) (s part : List ℕ) (first n from : ℕ) where
   turn-done {h = h} {pen = pen} {at = at} g i = done (following (ap (stepsOf st s from (drawingOf h pen)) (none first part n (n - at) at i)) (g .along))
 
   -- where it ends is what a run gives
-  pub ended : {out₀ : List ℤ} {answer : Answer} {next : ℕ} {out : List ℤ} → Stopped allSteps out₀ answer next out → Ended (ranOf st s from (commandsOf first part n) out₀) (record { answer = answer; words = next }) out
+  pub ended : {out₀ : List ℤ} {answer : Answer} {next : ℕ} {out : List ℤ} → Stopped allSteps out₀ answer next out → Ended (ranOf st s from (commandsOf first (rawAt part) n) out₀) (record { answer = answer; words = next }) out
   unfolding ranOf allSteps
   ended {out₀} {answer} {next} p =
       record {

@@ -85,7 +85,7 @@ pub record Runnable (st : HintState) (s part : List ℕ) (first n from : ℕ) : 
   pub bytes : ℕ
   pub few : bytes ≤ 65536
   pub inside : from + bytes ≤ length s
-  pub faultless : firstOf (commandRows bytes (commandsOf first part n)) ≡ Ok
+  pub faultless : firstOf (commandRows bytes (commandsOf first (rawAt part) n)) ≡ Ok
 
 -- a call has points, and the map that carries them is not valid
 abbrev pub wantsMap : Bool → Path → Bool

@@ -59,7 +59,7 @@ pub fn run(
     out: &mut [i32],
 ) -> Ran
     requires { ⌜ Runnable state (now script) (now part) first n from ⌝ }
-    ensures { λ r. ⌜ Ended (ranOf state (now (script .entry)) from (commandsOf first (now (part .entry)) n) (now (out .entry))) r (now (out .exit)) ⌝ }
+    ensures { λ r. ⌜ Ended (ranOf state (now (script .entry)) from (commandsOf first (rawAt (now (part .entry))) n) (now (out .entry))) r (now (out .exit)) ⌝ }
 {
     let mut hints = Hints::new(state.scale);
     let mut pen = Pen::new();

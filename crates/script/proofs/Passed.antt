@@ -24,7 +24,7 @@ use Rattle.script.specs.Script.{commandsIn, checkRows, zonesOf, stepsIn}
 
 pub record Passed (s : List ℕ) : Type 0 where
   pub header : firstOf (headerRows s) ≡ Ok
-  pub params : firstOf (paramRows s) ≡ Ok
+  pub params : firstOf (paramRows (rawAt s)) ≡ Ok
   pub commands : firstOf (commandRows (rawAt s 7) (commandsIn s)) ≡ Ok
   pub fine : Fine s
   pub whole : Whole s
@@ -32,17 +32,17 @@ pub record Passed (s : List ℕ) : Type 0 where
 pub passed : (s : List ℕ) → firstOf (checkRows s) ≡ Ok → Passed s
 unfolding checkRows
 passed s e =
-    let h = both-ok (headerRows s) (paramRows s ++ commandRows (rawAt s 7) (commandsIn s)) (header-refusing s) e in
-    let p = both-ok (paramRows s) (commandRows (rawAt s 7) (commandsIn s)) (params-refusing s) (h .1) in
+    let h = both-ok (headerRows s) (paramRows (rawAt s) ++ commandRows (rawAt s 7) (commandsIn s)) (header-refusing s) e in
+    let p = both-ok (paramRows (rawAt s)) (commandRows (rawAt s 7) (commandsIn s)) (params-refusing s) (h .1) in
     let f = fine s (h .0) in
     record { header = h .0; params = p .0; commands = p .1; fine = f; whole = whole s f (p .0) }
 
 -- zones keep the scale that they are made at
-zones-scale : (s : List ℕ) → zonesOf s .scale ≡ numberAt s 1
+zones-scale : (s : List ℕ) → zonesOf s .scale ≡ numberAt (rawAt s) 1
 unfolding zonesOf stateOf
-zones-scale s = go (emBox (paramsOf s))
+zones-scale s = go (emBox (paramsOf (rawAt s)))
   where
-    go : (em : Bool) → stateBy em (paramsOf s) (numberAt s 1) .scale ≡ numberAt s 1
+    go : (em : Bool) → stateBy em (paramsOf (rawAt s)) (numberAt (rawAt s) 1) .scale ≡ numberAt (rawAt s) 1
     go true = refl
     go false = refl
 
@@ -52,7 +52,7 @@ unfolding zonesOf
 runnable s p =
     let f = p .fine in
     record {
-      zones = state-count (paramsOf s) (numberAt s 1) (counted s (p .whole) .blues);
+      zones = state-count (paramsOf (rawAt s)) (numberAt (rawAt s) 1) (counted s (p .whole) .blues);
       there = omega (arith, length-drop (4 * rawAt s 4) s, f .ends);
       short = omega (arith, f .ends, f .short);
       start = omega (arith, f .ends, f .short);

@@ -80,4 +80,4 @@ behind ws out h =
 -- a result has no more words than a header can say
 pub short : (s : List ℕ) (room : ℕ) → Passed s → length (fitted room (stepsIn s) .words) ≤ 163840
 unfolding stepsIn
-short s room p = omega (arith, p .fine .ends, p .fine .short, ten-each (zonesOf s) s (4 * rawAt s 6) (newDrawing (numberAt s 1)) (commandsIn s) room, at-most (rawAt s 4) (drop (4 * rawAt s 4) s) (rawAt s 5))
+short s room p = omega (arith, p .fine .ends, p .fine .short, ten-each (zonesOf s) s (4 * rawAt s 6) (newDrawing (numberAt (rawAt s) 1)) (commandsIn s) room, at-most (rawAt s 4) (drop (4 * rawAt s 4) s) (rawAt s 5))

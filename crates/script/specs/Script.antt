@@ -25,20 +25,20 @@ use Rattle.run.specs.Run.{stepsOf}
 -- ---- the tests
 -- the commands: as many words as word 5 says, from the offset in word 4 on
 abbrev pub commandsIn : List ℕ → List Placed
-commandsIn s = commandsOf (rawAt s 4) (drop (4 * rawAt s 4) s) (rawAt s 5)
+commandsIn s = commandsOf (rawAt s 4) (rawAt (drop (4 * rawAt s 4) s)) (rawAt s 5)
 
 -- header, scale, counts, word 3 against the pairs, commands first to last
-unfoldable pub checkRows : List ℕ → List Row
-checkRows s = headerRows s ++ (paramRows s ++ commandRows (rawAt s 7) (commandsIn s))
+unfoldable pub checkRows : List ℕ → List (Row Answer)
+checkRows s = headerRows s ++ (paramRows (rawAt s) ++ commandRows (rawAt s 7) (commandsIn s))
 
 -- ---- the run
 -- the zones, made once
 unfoldable pub zonesOf : List ℕ → HintState
-zonesOf s = stateOf (paramsOf s) (numberAt s 1)
+zonesOf s = stateOf (paramsOf (rawAt s)) (numberAt (rawAt s) 1)
 
 -- the record words of each command, over a new drawing; the mask bytes start at the offset in word 6
 unfoldable pub stepsIn : List ℕ → List Step
-stepsIn s = stepsOf (zonesOf s) s (4 * rawAt s 6) (newDrawing (numberAt s 1)) (commandsIn s)
+stepsIn s = stepsOf (zonesOf s) s (4 * rawAt s 6) (newDrawing (numberAt (rawAt s) 1)) (commandsIn s)
 
 -- ---- the result
 -- header 1, record count, 4, record words; then the records

@@ -28,11 +28,11 @@ use Rattle.table.proofs.Params.{scale-answer, blues-answer, pairs-answe
 use Rattle.table.proofs.Faults.{command-answer, mask-answer, Fault, fine-or-fault}
 
 -- tests that say only BadScript
-abbrev OnlyScript : List Row → Type 0
+abbrev OnlyScript : List (Row Answer) → Type 0
 OnlyScript [] = Unit {0}
 OnlyScript (r ∷ rs) = (r .said ≡ BadScript (placeOf (r .said))) × OnlyScript rs
 
-says-script : (rs : List Row) → OnlyScript rs → (k : ℕ) → k < length rs → rowAt rs k .said ≡ BadScript (placeOf (rowAt rs k .said))
+says-script : (rs : List (Row Answer)) → OnlyScript rs → (k : ℕ) → k < length rs → rowAt rs k .said ≡ BadScript (placeOf (rowAt rs k .said))
 says-script [] o k h = absurd (omega arith)
 says-script (r ∷ rs) o zero h = o .0
 says-script (r ∷ rs) o (suc k) h = says-script rs (o .1) k (omega arith)
@@ -46,20 +46,20 @@ module _ (s : List ℕ) where
   -- ---- all tests
   by-header : (a : Answer) → 0 < numberOf a → firstOf (headerRows s) ≡ a → firstOf (checkRows s) ≡ a
   unfolding checkRows
-  by-header a h e = found (headerRows s) (paramRows s ++ commandRows (rawAt s 7) (commandsIn s)) (rw e h) ∙ e
+  by-header a h e = found (headerRows s) (paramRows (rawAt s) ++ commandRows (rawAt s 7) (commandsIn s)) (rw e h) ∙ e
 
   module _ (h : HeaderFine s) where
-    past-header : firstOf (checkRows s) ≡ firstOf (paramRows s ++ commandRows (rawAt s 7) (commandsIn s))
+    past-header : firstOf (checkRows s) ≡ firstOf (paramRows (rawAt s) ++ commandRows (rawAt s 7) (commandsIn s))
     unfolding checkRows
-    past-header = onward (headerRows s) (paramRows s ++ commandRows (rawAt s 7) (commandsIn s)) (header-refusing s) h
+    past-header = onward (headerRows s) (paramRows (rawAt s) ++ commandRows (rawAt s 7) (commandsIn s)) (header-refusing s) h
 
-    by-params : (a : Answer) → 0 < numberOf a → firstOf (paramRows s) ≡ a → firstOf (checkRows s) ≡ a
-    by-params a l e = past-header ∙ found (paramRows s) (commandRows (rawAt s 7) (commandsIn s)) (rw e l) ∙ e
+    by-params : (a : Answer) → 0 < numberOf a → firstOf (paramRows (rawAt s)) ≡ a → firstOf (checkRows s) ≡ a
+    by-params a l e = past-header ∙ found (paramRows (rawAt s)) (commandRows (rawAt s 7) (commandsIn s)) (rw e l) ∙ e
 
-    by-commands : firstOf (paramRows s) ≡ Ok → firstOf (checkRows s) ≡ firstOf (commandRows (rawAt s 7) (commandsIn s))
-    by-commands p = past-header ∙ onward (paramRows s) (commandRows (rawAt s 7) (commandsIn s)) (params-refusing s) p
+    by-commands : firstOf (paramRows (rawAt s)) ≡ Ok → firstOf (checkRows s) ≡ firstOf (commandRows (rawAt s 7) (commandsIn s))
+    by-commands p = past-header ∙ onward (paramRows (rawAt s)) (commandRows (rawAt s 7) (commandsIn s)) (params-refusing s) p
 
-    in-commands : {cs : List Placed} {a : Answer} → firstOf (paramRows s) ≡ Ok → commandsIn s ≡ cs → firstOf (commandRows (rawAt s 7) cs) ≡ a → firstOf (checkRows s) ≡ a
+    in-commands : {cs : List Placed} {a : Answer} → firstOf (paramRows (rawAt s)) ≡ Ok → commandsIn s ≡ cs → firstOf (commandRows (rawAt s 7) cs) ≡ a → firstOf (checkRows s) ≡ a
     in-commands p e f = by-commands p ∙ ap (λ (l : List Placed). firstOf (commandRows (rawAt s 7) l)) e ∙ f
 
   module _ (out : List ℤ) where
@@ -116,7 +116,7 @@ module _ (s : List ℕ) where
     checked-row c true e = (NoRoom (rawAt s 4), small c (ltb-true (length out) 4 e) refl)
     checked-row c false e = run-row c (ltb-false (length out) 4 e) (fits-or-not (length out - 4) (stepsIn s))
 
-    command-row : HeaderFine s → firstOf (paramRows s) ≡ Ok → (firstOf (commandRows (rawAt s 7) (commandsIn s)) ≡ Ok) ⊎ Fault (rawAt s 7) (commandsIn s) → Met
+    command-row : HeaderFine s → firstOf (paramRows (rawAt s)) ≡ Ok → (firstOf (commandRows (rawAt s 7) (commandsIn s)) ≡ Ok) ⊎ Fault (rawAt s 7) (commandsIn s) → Met
     command-row h p (inl f) = checked-row (by-commands h p ∙ f) (ltb (length out) 4) refl
     command-row h p (inr o) = by (o .holds)
       where
@@ -127,7 +127,7 @@ module _ (s : List ℕ) where
         by (inl e) = (BadCommand (o .at .place), when isBad e)
         by (inr e) = (BadMask (o .at .place), when (hasBadMask (rawAt s 7)) e)
 
-    params-row : HeaderFine s → (firstOf (paramRows s) ≡ Ok) ⊎ Met → Met
+    params-row : HeaderFine s → (firstOf (paramRows (rawAt s)) ≡ Ok) ⊎ Met → Met
     params-row h (inl p) = command-row h p (fine-or-fault (rawAt s 7) (commandsIn s))
     params-row h (inr m) = m
 

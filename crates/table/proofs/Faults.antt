@@ -36,11 +36,11 @@ module _ (bytes : ℕ) where
     behind = ap firstOf (rows-append before (at ∷ after)) ∙ onward (commandRows bytes before) (commandRows bytes (at ∷ after)) (rows-refusing bytes before) fine
 
     pub command-answer : isBad (at .command) ≡ true → firstOf (commandRows bytes (before ++ at ∷ after)) ≡ BadCommand (at .place)
-    unfolding commandRows firstOf
+    unfolding commandRows firstOr
     command-answer e = behind ∙ rw e
 
     pub mask-answer : hasBadMask bytes (at .command) ≡ true → firstOf (commandRows bytes (before ++ at ∷ after)) ≡ BadMask (at .place)
-    unfolding commandRows firstOf
+    unfolding commandRows firstOr
     mask-answer e = behind ∙ rw (one-fault (at .command) e, e)
 
   -- the first command with a fault
@@ -54,7 +54,7 @@ module _ (bytes : ℕ) where
 
   -- no command has one, or there is a first
   pub fine-or-fault : (cs : List Placed) → (firstOf (commandRows bytes cs) ≡ Ok) ⊎ Fault cs
-  unfolding commandRows firstOf
+  unfolding commandRows firstOr
   fine-or-fault [] = inl refl
   fine-or-fault (c ∷ cs) = by (isBad (c .command)) (hasBadMask bytes (c .command)) refl refl (fine-or-fault cs)
     where

@@ -25,7 +25,7 @@ module _ (s : List ℕ) where
   FirstFine k = (j : ℕ) → 12 ≤ j → j < 12 + k → rawAt s j ≤ 7
 
   -- the test of the count at word 12 + k
-  count-row : (k : ℕ) → k < 4 → rowAt (paramRows s) (suc k) ≡ row (ltb 7 (rawAt s (12 + k))) (BadBlues (12 + k))
+  count-row : (k : ℕ) → k < 4 → rowAt (paramRows (rawAt s)) (suc k) ≡ row (ltb 7 (rawAt s (12 + k))) (BadBlues (12 + k))
   unfolding paramRows
   count-row zero h = refl
   count-row (suc zero) h = refl
@@ -34,38 +34,38 @@ module _ (s : List ℕ) where
   count-row (suc (suc (suc (suc k)))) h = absurd (omega arith)
 
   -- no test before it holds
-  past-counts : (k : ℕ) → k ≤ 4 → ScaleFine s → FirstFine k → Past (paramRows s) (suc k)
+  past-counts : (k : ℕ) → k ≤ 4 → ScaleFine s → FirstFine k → Past (paramRows (rawAt s)) (suc k)
   unfolding paramRows
   past-counts zero h c f = pass 0 (record { rest = refl }) (omega heights)
   past-counts (suc k) h c f =
       pass (suc k) (past-counts k (omega arith) c (λ j l m. f j l (omega arith)))
-      (ap (λ (r : Row). r .fault) (count-row k (omega arith)) ∙ le-ltb 7 (rawAt s (12 + k)) (f (12 + k) (omega arith) (omega arith)))
+      (ap (λ (r : Row Answer). r .fault) (count-row k (omega arith)) ∙ le-ltb 7 (rawAt s (12 + k)) (f (12 + k) (omega arith) (omega arith)))
 
   -- ---- what the tests answer
-  pub scale-answer : wordAt s 1 <ℤ pos 1 → firstOf (paramRows s) ≡ BadScale
+  pub scale-answer : wordAt (rawAt s) 1 <ℤ pos 1 → firstOf (paramRows (rawAt s)) ≡ BadScale
   unfolding paramRows
   scale-answer h = sym (stop {rs = paramRows s} 0 (record { rest = refl }) (omega heights))
 
-  count-answer : (k : ℕ) → k < 4 → ScaleFine s → FirstFine k → 7 < rawAt s (12 + k) → firstOf (paramRows s) ≡ BadBlues (12 + k)
+  count-answer : (k : ℕ) → k < 4 → ScaleFine s → FirstFine k → 7 < rawAt s (12 + k) → firstOf (paramRows (rawAt s)) ≡ BadBlues (12 + k)
   count-answer k h c f m =
       let e = count-row k h in
-      sym (stop (suc k) (past-counts k (omega arith) c f) (ap (λ (r : Row). r .fault) e ∙ lt-ltb 7 (rawAt s (12 + k)) m)) ∙ ap (λ (r : Row). r .said) e
+      sym (stop (suc k) (past-counts k (omega arith) c f) (ap (λ (r : Row Answer). r .fault) e ∙ lt-ltb 7 (rawAt s (12 + k)) m)) ∙ ap (λ (r : Row Answer). r .said) e
 
-  pub blues-answer : (p : ℕ) → 12 ≤ p → p ≤ 15 → ScaleFine s → ((j : ℕ) → 12 ≤ j → j < p → rawAt s j ≤ 7) → 7 < rawAt s p → firstOf (paramRows s) ≡ BadBlues p
+  pub blues-answer : (p : ℕ) → 12 ≤ p → p ≤ 15 → ScaleFine s → ((j : ℕ) → 12 ≤ j → j < p → rawAt s j ≤ 7) → 7 < rawAt s p → firstOf (paramRows (rawAt s)) ≡ BadBlues p
   blues-answer p l h c f m =
       let e : 12 + (p - 12) ≡ p = omega arith in
       count-answer (p - 12) (omega arith) c (λ j a b. f j a (omega arith)) (rw e m) ∙ ap BadBlues e
 
-  past-all : ScaleFine s → CountsFine s → Past (paramRows s) 5
+  past-all : ScaleFine s → CountsFine s → Past (paramRows (rawAt s)) 5
   past-all c f = past-counts 4 (omega arith) c (λ j l m. f j l (omega arith))
 
-  pub pairs-answer : ScaleFine s → CountsFine s → (PairsFine s → ⊥) → firstOf (paramRows s) ≡ BadScript 3
+  pub pairs-answer : ScaleFine s → CountsFine s → (PairsFine s → ⊥) → firstOf (paramRows (rawAt s)) ≡ BadScript 3
   unfolding paramRows
-  pairs-answer c f n = sym (stop {rs = paramRows s} 5 (past-all c f) (other (rawAt s 3) (8 + 2 * pairsIn s) (λ e. n (omega arith))))
+  pairs-answer c f n = sym (stop {rs = paramRows s} 5 (past-all c f) (other (rawAt s 3) (8 + 2 * pairsIn (rawAt s)) (λ e. n (omega arith))))
 
-  fine-answer : ScaleFine s → CountsFine s → PairsFine s → firstOf (paramRows s) ≡ Ok
-  unfolding paramRows firstOf
-  fine-answer c f p = pass {rs = paramRows s} 5 (past-all c f) (same (rawAt s 3) (8 + 2 * pairsIn s) (omega arith)) .rest
+  fine-answer : ScaleFine s → CountsFine s → PairsFine s → firstOf (paramRows (rawAt s)) ≡ Ok
+  unfolding paramRows firstOr
+  fine-answer c f p = pass {rs = paramRows s} 5 (past-all c f) (same (rawAt s 3) (8 + 2 * pairsIn (rawAt s)) (omega arith)) .rest
 
   -- ---- they are fine, or a row of the table is met
   record Over (k : ℕ) : Type 0 where
@@ -88,17 +88,17 @@ module _ (s : List ℕ) where
           last j l m true q = rw (eqb-true j (12 + k) q) (ltb-false 7 (rawAt s (12 + k)) e)
           last j l m false q = f j l (omega (arith, eqb-false j (12 + k) q))
 
-  pub params-or-row : (out : List ℤ) → HeaderFine s → (firstOf (paramRows s) ≡ Ok) ⊎ ((a : Answer) × When s out a)
-  params-or-row out h = by-scale (lessF (numberAt s 1) (fromBits (pos 1))) refl
+  pub params-or-row : (out : List ℤ) → HeaderFine s → (firstOf (paramRows (rawAt s)) ≡ Ok) ⊎ ((a : Answer) × When s out a)
+  params-or-row out h = by-scale (lessF (numberAt (rawAt s) 1) (fromBits (pos 1))) refl
     where
-      by-pairs : ScaleFine s → CountsFine s → (b : Bool) → eqb (rawAt s 3) (8 + (pairsIn s + pairsIn s)) ≡ b → (firstOf (paramRows s) ≡ Ok) ⊎ ((a : Answer) × When s out a)
-      by-pairs c f true e = inl (fine-answer c f (eqb-true (rawAt s 3) (8 + (pairsIn s + pairsIn s)) e))
-      by-pairs c f false e = inr (BadScript 3, pairs h c f (eqb-false (rawAt s 3) (8 + (pairsIn s + pairsIn s)) e) refl)
+      by-pairs : ScaleFine s → CountsFine s → (b : Bool) → eqb (rawAt s 3) (8 + (pairsIn (rawAt s) + pairsIn (rawAt s))) ≡ b → (firstOf (paramRows (rawAt s)) ≡ Ok) ⊎ ((a : Answer) × When s out a)
+      by-pairs c f true e = inl (fine-answer c f (eqb-true (rawAt s 3) (8 + (pairsIn (rawAt s) + pairsIn (rawAt s))) e))
+      by-pairs c f false e = inr (BadScript 3, pairs h c f (eqb-false (rawAt s 3) (8 + (pairsIn (rawAt s) + pairsIn (rawAt s))) e) refl)
 
-      by-counts : ScaleFine s → FirstFine 4 ⊎ Over 4 → (firstOf (paramRows s) ≡ Ok) ⊎ ((a : Answer) × When s out a)
-      by-counts c (inl f) = by-pairs c (λ j l m. f j l (omega arith)) (eqb (rawAt s 3) (8 + (pairsIn s + pairsIn s))) refl
+      by-counts : ScaleFine s → FirstFine 4 ⊎ Over 4 → (firstOf (paramRows (rawAt s)) ≡ Ok) ⊎ ((a : Answer) × When s out a)
+      by-counts c (inl f) = by-pairs c (λ j l m. f j l (omega arith)) (eqb (rawAt s 3) (8 + (pairsIn (rawAt s) + pairsIn (rawAt s)))) refl
       by-counts c (inr o) = inr (BadBlues (o .place), record { header = h; scale = c; least = o .least; most = omega arith; count = o .count; before = o .before })
 
-      by-scale : (b : Bool) → lessF (numberAt s 1) (fromBits (pos 1)) ≡ b → (firstOf (paramRows s) ≡ Ok) ⊎ ((a : Answer) × When s out a)
+      by-scale : (b : Bool) → lessF (numberAt (rawAt s) 1) (fromBits (pos 1)) ≡ b → (firstOf (paramRows (rawAt s)) ≡ Ok) ⊎ ((a : Answer) × When s out a)
       by-scale true e = inr (BadScale, record { header = h; scale = omega heights })
       by-scale false e = by-counts (omega heights) (counts-or-not 4)

@@ -25,14 +25,14 @@ HeaderFine s = firstOf (headerRows s) ≡ Ok
 
 -- a scale of 1 bit or more
 abbrev pub ScaleFine : List ℕ → Type 0
-ScaleFine s = pos 1 ≤ℤ wordAt s 1
+ScaleFine s = pos 1 ≤ℤ wordAt (rawAt s) 1
 
 -- four counts from 0 to 7
 abbrev pub CountsFine : List ℕ → Type 0
 CountsFine s = (j : ℕ) → 12 ≤ j → j ≤ 15 → rawAt s j ≤ 7
 
 abbrev pub PairsFine : List ℕ → Type 0
-PairsFine s = rawAt s 3 ≡ 8 + (pairsIn s + pairsIn s)
+PairsFine s = rawAt s 3 ≡ 8 + (pairsIn (rawAt s) + pairsIn (rawAt s))
 
 -- all of it, and every command
 abbrev pub Checked : List ℕ → Type 0
@@ -47,7 +47,7 @@ pub data BadScriptWhen (s : List ℕ) (p : ℕ) : Type 0 where
 -- 2: scale below 1
 pub record BadScaleWhen (s : List ℕ) : Type 0 where
   pub header : HeaderFine s
-  pub scale : wordAt s 1 <ℤ pos 1
+  pub scale : wordAt (rawAt s) 1 <ℤ pos 1
 
 -- 3: a count outside 0 to 7, at the first of words 12 to 15
 pub record BadBluesWhen (s : List ℕ) (p : ℕ) : Type 0 where
@@ -61,7 +61,7 @@ pub record BadBluesWhen (s : List ℕ) (p : ℕ) : Type 0 where
 -- 4 and 5: the first command with a fault has this one; its place is that of its kind word
 pub record FaultWhen (s : List ℕ) (faulty : Command → Bool) (p : ℕ) : Type 0 where
   pub header : HeaderFine s
-  pub params : firstOf (paramRows s) ≡ Ok
+  pub params : firstOf (paramRows (rawAt s)) ≡ Ok
   pub before : List Placed
   pub at : Placed
   pub after : List Placed

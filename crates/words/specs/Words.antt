@@ -17,10 +17,11 @@ rawAt s i =
 unfoldable pub signed : ℕ → ℤ
 signed n = toZ w32 n
 
+-- the rest is said of words, whatever gives word i: a script's bytes, by rawAt, or a list of words
 -- word i, signed
-abbrev pub wordAt : List ℕ → ℕ → ℤ
-wordAt s i = signed (rawAt s i)
+abbrev pub wordAt : (ℕ → ℕ) → ℕ → ℤ
+wordAt w i = signed (w i)
 
 -- word i as a number in 16.16
-abbrev pub numberAt : List ℕ → ℕ → Fixed
-numberAt s i = fromBits (wordAt s i)
+abbrev pub numberAt : (ℕ → ℕ) → ℕ → Fixed
+numberAt w i = fromBits (wordAt w i)

@@ -44,7 +44,7 @@ pub fn natural(script: &[u8], i: usize) -> usize
 // A word as it is meant, signed.
 pub fn word(script: &[u8], i: usize) -> i32
     requires { ⌜ 4 * i + 4 ≤ length (now script) ⌝ }
-    ensures { λ r. ⌜ r ≡ wordAt (now (script .entry)) i ⌝ }
+    ensures { λ r. ⌜ r ≡ wordAt (rawAt (now (script .entry))) i ⌝ }
 {
     to_signed(raw(script, i))
 }
@@ -52,7 +52,7 @@ pub fn word(script: &[u8], i: usize) -> i32
 // A word as a number in 16.16.
 pub fn number(script: &[u8], i: usize) -> Fixed
     requires { ⌜ 4 * i + 4 ≤ length (now script) ⌝ }
-    ensures { λ r. ⌜ r ≡ numberAt (now (script .entry)) i ⌝ }
+    ensures { λ r. ⌜ r ≡ numberAt (rawAt (now (script .entry))) i ⌝ }
 {
     let bits = word(script, i);
     Fixed { bits }

@@ -4,6 +4,7 @@ use Prim.Native.Nat.{_≤_, _<_}
 use native.Mathlib.Omega.{arith}
 use borrow.Author.Needs.{needs}
 use borrow.Author.Tests.{lt-ltb, le-ltb}
+use Rattle.words.specs.Words.{rawAt}
 use Rattle.commands.specs.Commands.{operandsOf, nextAt, readAt}
 use Rattle.commands.proofs.reading.read_command.Statement.{statement}
 use Rattle.commands.proofs.reading.read_command.Tie as tie
@@ -25,7 +26,7 @@ unfolding readAt
 returns c =
     let a = c .before .before .before .before .args in
     let e = c .before .operands .ensures .0 ∙ ap operandsOf (c .before .before .natural .ensures .0) in
-    let t : a .n < nextAt (a .part .now) (a .at) = omega (arith, e) in
+    let t : a .n < nextAt (rawAt (a .part .now)) (a .at) = omega (arith, e) in
     rw (e, lt-ltb _ _ t)
 
 command-of-requires : tie.Need-command-of-requires
@@ -37,7 +38,7 @@ returns-2 c =
     let a = c .before .before .before .before .before .args in
     let r = c .before .before .before .natural .ensures .0 in
     let e = c .before .before .operands .ensures .0 ∙ ap operandsOf r in
-    let t : nextAt (a .part .now) (a .at) ≤ a .n = omega (arith, e) in
+    let t : nextAt (rawAt (a .part .now)) (a .at) ≤ a .n = omega (arith, e) in
     rw (e, le-ltb _ _ t, c .command-of .ensures, r)
 
 pub read-command-spec : {M : Type 1} → statement M

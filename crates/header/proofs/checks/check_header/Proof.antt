@@ -7,7 +7,7 @@ use native.Mathlib.Omega.{arith}
 use lib.ListN.{length, drop}
 use borrow.Author.Needs.{needs}
 use Rattle.words.specs.Words.{rawAt}
-use Rattle.words.specs.Answers.{firstOf}
+use Rattle.words.specs.Rows.{firstOr}
 use Rattle.header.specs.Header.{padded, allZero, headerRows}
 use Rattle.header.proofs.Tests.{Past, pass, stop, tests, low, high, inside, before-end, at-end, long}
 use Rattle.header.proofs.checks.check_header.Statement.{statement}
@@ -156,7 +156,7 @@ unfolding headerRows
 returns-10 c = stop 8 (at8 (c .before .before)) (ap not (zeros (c .before)) ∙ c .if10 .taken)
 
 returns-11 : tie.Need-returns-11
-unfolding headerRows firstOf
+unfolding headerRows firstOr
 returns-11 c = sym (pass 8 (at8 (c .before .before)) (ap not (zeros (c .before)) ∙ c .if10 .left) .rest)
 
 pub check-header-spec : {M : Type 1} → statement M

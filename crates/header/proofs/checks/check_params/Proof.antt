@@ -6,7 +6,8 @@ use mir.Syntax.{w32}
 use mir.Val.{SFits}
 use mir.Facts.{toZ-ofZ}
 use borrow.Author.Needs.{needs}
-use Rattle.words.specs.Answers.{firstOf}
+use Rattle.words.specs.Words.{rawAt}
+use Rattle.words.specs.Rows.{firstOr}
 use Rattle.header.specs.Params.{paramRows}
 use Rattle.header.proofs.Tests.{Past, pass, stop, tests}
 use Rattle.header.proofs.checks.check_params.Statement.{statement}
@@ -19,23 +20,23 @@ fits c = search needs
 abbrev script : tie.Else1 → List ℕ
 script c = c .before .before .before .before .before .args .script .now
 
-at1 : (c : tie.Else1) → Past (paramRows (script c)) 1
+at1 : (c : tie.Else1) → Past (paramRows (rawAt (script c))) 1
 unfolding paramRows
 at1 c = pass 0 (record { rest = refl }) (rw (toZ-ofZ (fits (c .before)), c .before .before .before .number .ensures) at (c .if1 .left))
 
-at2 : (c : tie.Else2) → Past (paramRows (script (c .before .before))) 2
+at2 : (c : tie.Else2) → Past (paramRows (rawAt (script (c .before .before)))) 2
 unfolding paramRows
 at2 c = pass 1 (at1 (c .before .before)) (omega tests)
 
-at3 : (c : tie.Else3) → Past (paramRows (script (c .before .before .before .before))) 3
+at3 : (c : tie.Else3) → Past (paramRows (rawAt (script (c .before .before .before .before)))) 3
 unfolding paramRows
 at3 c = pass 2 (at2 (c .before .before)) (omega tests)
 
-at4 : (c : tie.Else4) → Past (paramRows (script (c .before .before .before .before .before .before))) 4
+at4 : (c : tie.Else4) → Past (paramRows (rawAt (script (c .before .before .before .before .before .before)))) 4
 unfolding paramRows
 at4 c = pass 3 (at3 (c .before .before)) (omega tests)
 
-at5 : (c : tie.Else5) → Past (paramRows (script (c .before .before .before .before .before .before .before .before))) 5
+at5 : (c : tie.Else5) → Past (paramRows (rawAt (script (c .before .before .before .before .before .before .before .before)))) 5
 unfolding paramRows
 at5 c = pass 4 (at4 (c .before .before)) (omega tests)
 
@@ -97,7 +98,7 @@ unfolding paramRows
 returns-6 c = stop 5 (at5 (c .before .before)) (omega tests)
 
 returns-7 : tie.Need-returns-7
-unfolding paramRows firstOf
+unfolding paramRows firstOr
 returns-7 c = sym (pass 5 (at5 (c .before .before)) (omega tests) .rest)
 
 pub check-params-spec : {M : Type 1} → statement M

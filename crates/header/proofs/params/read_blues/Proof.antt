@@ -9,35 +9,36 @@ use lib.Seq.{set-at}
 use borrow.Author.Needs.{needs}
 use Rattle.zones.specs.declared.blues.Blue.{Blue}
 use Rattle.zones.specs.Zones.{noBlue}
+use Rattle.words.specs.Words.{rawAt}
 use Rattle.header.specs.Params.{pairAt, pairsFrom, bluesAt, pushedPair}
 use Rattle.header.proofs.params.read_blues.Statement.{statement}
 use Rattle.header.proofs.params.read_blues.Tie as tie
 
-pairs-length : (s : List ℕ) (at n : ℕ) → length (pairsFrom s at n) ≡ n
+pairs-length : (w : ℕ → ℕ) (at n : ℕ) → length (pairsFrom w at n) ≡ n
 unfolding pairsFrom
-pairs-length s at zero = refl
-pairs-length s at (suc n) = ap suc (pairs-length s (at + 2) n)
+pairs-length w at zero = refl
+pairs-length w at (suc n) = ap suc (pairs-length w (at + 2) n)
 
 -- the last pair of one more
-pairs-more : (s : List ℕ) (at n : ℕ) → pairsFrom s at (suc n) ≡ pairsFrom s at n ++ pairAt s (at + 2 * n) ∷ []
+pairs-more : (w : ℕ → ℕ) (at n : ℕ) → pairsFrom w at (suc n) ≡ pairsFrom w at n ++ pairAt w (at + 2 * n) ∷ []
 unfolding pairsFrom
-pairs-more s at zero =
+pairs-more w at zero =
     let e : at ≡ at + 2 * zero = omega arith in
-    ap (λ (k : ℕ). pairAt s k ∷ []) e
-pairs-more s at (suc n) =
+    ap (λ (k : ℕ). pairAt w k ∷ []) e
+pairs-more w at (suc n) =
     let e : at + 2 + 2 * n ≡ at + 2 * suc n = omega arith in
-    ap (λ (l : List Blue). pairAt s at ∷ l) (pairs-more s (at + 2) n ∙ ap (λ (k : ℕ). pairsFrom s (at + 2) n ++ pairAt s k ∷ []) e)
+    ap (λ (l : List Blue). pairAt w at ∷ l) (pairs-more w (at + 2) n ∙ ap (λ (k : ℕ). pairsFrom w (at + 2) n ++ pairAt w k ∷ []) e)
 
-blues-more : (s : List ℕ) (at n : ℕ) → n < 7 → pushedPair (bluesAt s at n) (pairAt s (at + 2 * n)) ≡ bluesAt s at (n + 1)
+blues-more : (w : ℕ → ℕ) (at n : ℕ) → n < 7 → pushedPair (bluesAt w at n) (pairAt w (at + 2 * n)) ≡ bluesAt w at (n + 1)
 unfolding bluesAt
-blues-more s at n h =
+blues-more w at n h =
     let left : 7 - n ≡ suc (7 - (n + 1)) = omega arith in
-    let stored : set (pairsFrom s at n ++ replicate (7 - n) noBlue) n (pairAt s (at + 2 * n)) ≡ pairsFrom s at (n + 1) ++ replicate (7 - (n + 1)) noBlue =
-    rw left (set-at (pairsFrom s at n) noBlue _ (pairAt s (at + 2 * n)) n (pairs-length s at n) ∙ sym (rw (add-one n, pairs-more s at n, append-assoc))) in
+    let stored : set (pairsFrom w at n ++ replicate (7 - n) noBlue) n (pairAt w (at + 2 * n)) ≡ pairsFrom w at (n + 1) ++ replicate (7 - (n + 1)) noBlue =
+    rw left (set-at (pairsFrom w at n) noBlue _ (pairAt w (at + 2 * n)) n (pairs-length w at n) ∙ sym (rw (add-one n, pairs-more w at n, append-assoc))) in
     ap (λ (l : List Blue). record { pairs = l; count = n + 1 }) stored
 
 abbrev Inv-loop : tie.InvT-loop
-Inv-loop script at count blues₀ i₀ blues i = (blues ≡ bluesAt script at i) × (i ≤ count)
+Inv-loop script at count blues₀ i₀ blues i = (blues ≡ bluesAt (rawAt script) at i) × (i ≤ count)
 
 abbrev μ-loop : tie.MeasureT-loop
 μ-loop script at count blues₀ i₀ blues i = count - i

@@ -13,7 +13,7 @@ use Rattle.replay.proofs.judging.judged.Statement.{statement}
 use Rattle.replay.proofs.judging.judged.Tie as tie
 
 -- what the run leaves, of the words that are lent
-ran : (c : tie.After-run-script) → Scripted (scriptOf (c .before .before .before .before .before .before .before .before .before .args .script .now) (lent (numberAt (c .before .before .before .before .before .before .before .before .before .args .head .now) 2) (length (c .before .before .before .before .before .before .before .before .before .args .out .now)) (c .before .before .before .before .before .before .before .before .before .args .out .now))) (c .run-script .result) (c .run-script .last .1 .0)
+ran : (c : tie.After-run-script) → Scripted (scriptOf (c .before .before .before .before .before .before .before .before .before .args .script .now) (lent (numberAt (rawAt (c .before .before .before .before .before .before .before .before .before .args .head .now)) 2) (length (c .before .before .before .before .before .before .before .before .before .args .out .now)) (c .before .before .before .before .before .before .before .before .before .args .out .now))) (c .run-script .result) (c .run-script .last .1 .0)
 ran c =
     let n = c .before .before .before .before in
     let a = n .before .before .before .before .before .args in

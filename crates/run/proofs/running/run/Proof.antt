@@ -42,10 +42,10 @@ module _ (c : tie.After-read-command Inv-loop μ-loop) where
   abbrev turn : tie.At-loop Inv-loop μ-loop
   turn = c .before .before
 
-  read-is : c .read-command .result .command ≡ readAt (begin turn .args .part .now) (begin turn .args .n) (turn .loop .at) .command
+  read-is : c .read-command .result .command ≡ readAt (rawAt (begin turn .args .part .now)) (begin turn .args .n) (turn .loop .at) .command
   read-is = ap (λ (r : Read). r .command) (c .read-command .ensures)
 
-  moved : c .read-command .result .next ≡ nextAt (begin turn .args .part .now) (turn .loop .at)
+  moved : c .read-command .result .next ≡ nextAt (rawAt (begin turn .args .part .now)) (turn .loop .at)
   moved = ap (λ (r : Read). r .next) (c .read-command .ensures) ∙ next-is _ _ _
 
 -- a command that writes nothing
@@ -53,7 +53,7 @@ module _ (c : tie.After-command Inv-loop μ-loop) where
   abbrev mark-turn : tie.At-loop Inv-loop μ-loop
   mark-turn = turn (c .before .before)
 
-  mark-is : readAt (begin mark-turn .args .part .now) (begin mark-turn .args .n) (mark-turn .loop .at) .command ≡ Mark (c .command .given .0 .0)
+  mark-is : readAt (rawAt (begin mark-turn .args .part .now)) (begin mark-turn .args .n) (mark-turn .loop .at) .command ≡ Mark (c .command .given .0 .0)
   mark-is = sym (read-is (c .before .before)) ∙ c .command .given .1
 
 -- a call that draws
@@ -67,7 +67,7 @@ module _ (c : tie.After-wants-map Inv-loop μ-loop) where
   abbrev path : Path
   path = c .before .before .command2 .given .0 .0
 
-  draw-is : readAt (begin draw-turn .args .part .now) (begin draw-turn .args .n) (draw-turn .loop .at) .command ≡ Draw path
+  draw-is : readAt (rawAt (begin draw-turn .args .part .now)) (begin draw-turn .args .n) (draw-turn .loop .at) .command ≡ Draw path
   draw-is = sym (read-is draw-read) ∙ c .before .before .command2 .given .1
 
 -- the call, over the rest of the output

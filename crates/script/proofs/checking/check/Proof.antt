@@ -21,7 +21,7 @@ header-ok c = is-ok _ (omega (arith, ap numberOf (c .before .before .check-heade
 header-fine : (c : tie.Else1) → Fine (c .before .before .before .before .args .script .now)
 header-fine c = fine _ (header-ok c)
 
-params-ok : (c : tie.Else2) → firstOf (paramRows (c .before .before .before .before .before .before .before .args .script .now)) ≡ Ok
+params-ok : (c : tie.Else2) → firstOf (paramRows (rawAt (c .before .before .before .before .before .before .before .args .script .now))) ≡ Ok
 params-ok c = is-ok _ (omega (arith, ap numberOf (c .before .before .check-params .ensures), c .before .code2 .ensures, c .if2 .left))
 
 check-header-requires : tie.Need-check-header-requires
@@ -35,7 +35,7 @@ unfolding checkRows
 returns c =
     let h = c .before .before .check-header .ensures in
     let s = c .before .before .before .before .args .script .now in
-    h ∙ sym (found (headerRows s) (paramRows s ++ commandRows (rawAt s 7) (commandsIn s)) (omega (arith, ap numberOf h, c .before .code .ensures, c .if1 .taken)))
+    h ∙ sym (found (headerRows s) (paramRows (rawAt s) ++ commandRows (rawAt s 7) (commandsIn s)) (omega (arith, ap numberOf h, c .before .code .ensures, c .if1 .taken)))
 
 check-params-requires : tie.Need-check-params-requires
 check-params-requires c κs = header-fine c .enough
@@ -49,7 +49,7 @@ returns-2 c =
     let q = c .before .before .check-params .ensures in
     let e = c .before .before .before in
     let s = e .before .before .before .before .args .script .now in
-    q ∙ sym (onward (headerRows s) (paramRows s ++ commandRows (rawAt s 7) (commandsIn s)) (header-refusing s) (header-ok e) ∙ found (paramRows s) (commandRows (rawAt s 7) (commandsIn s)) (omega (arith, ap numberOf q, c .before .code2 .ensures, c .if2 .taken)))
+    q ∙ sym (onward (headerRows s) (paramRows (rawAt s) ++ commandRows (rawAt s 7) (commandsIn s)) (header-refusing s) (header-ok e) ∙ found (paramRows (rawAt s)) (commandRows (rawAt s 7) (commandsIn s)) (omega (arith, ap numberOf q, c .before .code2 .ensures, c .if2 .taken)))
 
 natural-requires : tie.Need-natural-requires
 natural-requires c κs = omega (arith, header-fine (c .before .before .before) .enough)
@@ -72,7 +72,7 @@ returns-3 c =
     let h = e .before .before .before in
     let s = h .before .before .before .before .args .script .now in
     rw (c .before .before .before .natural .ensures .0, c .before .before .natural2 .ensures .0, c .before .natural3 .ensures .0) at (c .check-commands .ensures) ∙
-    sym (onward (headerRows s) (paramRows s ++ commandRows (rawAt s 7) (commandsIn s)) (header-refusing s) (header-ok h) ∙ onward (paramRows s) (commandRows (rawAt s 7) (commandsIn s)) (params-refusing s) (params-ok e))
+    sym (onward (headerRows s) (paramRows (rawAt s) ++ commandRows (rawAt s 7) (commandsIn s)) (header-refusing s) (header-ok h) ∙ onward (paramRows (rawAt s)) (commandRows (rawAt s 7) (commandsIn s)) (params-refusing s) (params-ok e))
 
 pub check-spec : {M : Type 1} → statement M
 check-spec =
