@@ -1,4 +1,4 @@
--- A run of commands over a new drawing (01, "The script"): the record words of each command, and those for which there is room.
+-- A run of calls over a new drawing (01, "The script"): the record words of each call, and those for which there is room. A script's commands are one list of calls.
 use mathlib.Core.Path.{_≡_}
 use mathlib.Core.Bool.{Bool, true, false}
 use mathlib.Core.List.{List, [], _∷_}
@@ -15,6 +15,7 @@ use Rattle.hints.specs.Path.{hasPoint}
 use Rattle.drawing.specs.Calls.{Call, stem, hintMask, counterMask, clear, close, draw, nextOf, wordsFor}
 use Rattle.drawing.specs.Open.{newDrawing}
 use Rattle.words.specs.declared.answer.Answer.the-variants.{Ok}
+use Rattle.words.specs.Words.{rawAt}
 use Rattle.words.specs.Answers.{firstOf}
 use Rattle.commands.specs.declared.reading.Marking.{Marking}
 use Rattle.commands.specs.declared.reading.Marking.the-variants.{Bad, Stem, Mask, Counter, Clear, Close}
@@ -43,11 +44,20 @@ abbrev pub callOf : List ℕ → ℕ → Command → Call
 callOf s from (Mark m) = markCall s from m
 callOf s from (Draw p) = draw p
 
--- ---- the record words of each command
-unfoldable pub stepsOf : HintState → List ℕ → ℕ → Drawing → List Placed → List Step
-stepsOf st s from d [] = []
-stepsOf st s from d (c ∷ cs) =
-    record { place = c .place; words = wordsFor st d (callOf s from (c .command)) } ∷ stepsOf st s from (nextOf st d (callOf s from (c .command))) cs
+-- a call, and the place that is named where its words do not fit
+pub record Asked : Type 0 where
+  pub place : ℕ
+  pub call : Call
+
+-- the calls that commands are
+unfoldable pub callsOf : List ℕ → ℕ → List Placed → List Asked
+callsOf s from [] = []
+callsOf s from (c ∷ cs) = record { place = c .place; call = callOf s from (c .command) } ∷ callsOf s from cs
+
+-- ---- the record words of each call
+unfoldable pub stepsOf : HintState → Drawing → List Asked → List Step
+stepsOf st d [] = []
+stepsOf st d (c ∷ cs) = record { place = c .place; words = wordsFor st d (c .call) } ∷ stepsOf st (nextOf st d (c .call)) cs
 
 -- ---- the run
 -- what a run answers, and the output that it leaves
@@ -58,9 +68,9 @@ pub record Outcome : Type 0 where
 abbrev pub outcomeOf : Fitted → List ℤ → Outcome
 outcomeOf f out = record { ran = record { answer = f .said; words = length (f .words) }; left = written (f .words) out }
 
--- commands over a new drawing, into all of an output
-unfoldable pub ranOf : HintState → List ℕ → ℕ → List Placed → List ℤ → Outcome
-ranOf st s from cs out = outcomeOf (fitted (length out) (stepsOf st s from (newDrawing (st .scale)) cs)) out
+-- calls over a new drawing, into all of an output
+unfoldable pub ranOf : HintState → List Asked → List ℤ → Outcome
+ranOf st cs out = outcomeOf (fitted (length out) (stepsOf st (newDrawing (st .scale)) cs)) out
 
 pub record Ended (o : Outcome) (r : Ran) (left : List ℤ) : Type 0 where
   pub said : r ≡ o .ran

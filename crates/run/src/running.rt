@@ -10,8 +10,9 @@ use hints::draw;
 use pen::Pen;
 use zones::HintState;
 ghost use mathlib.Core.Path.{_≡_};
+ghost use Rattle.words.specs.Words.{rawAt};
 ghost use Rattle.commands.specs.Commands.{commandsOf};
-ghost use Rattle.run.specs.Run.{wantsMap, isClose, ranOf, Ended, Runnable};
+ghost use Rattle.run.specs.Run.{callsOf, wantsMap, isClose, ranOf, Ended, Runnable};
 
 // How a run ended: the answer, and the record words that were written.
 pub struct Ran {
@@ -59,7 +60,7 @@ pub fn run(
     out: &mut [i32],
 ) -> Ran
     requires { ⌜ Runnable state (now script) (now part) first n from ⌝ }
-    ensures { λ r. ⌜ Ended (ranOf state (now (script .entry)) from (commandsOf first (rawAt (now (part .entry))) n) (now (out .entry))) r (now (out .exit)) ⌝ }
+    ensures { λ r. ⌜ Ended (ranOf state (callsOf (now (script .entry)) from (commandsOf first (rawAt (now (part .entry))) n)) (now (out .entry))) r (now (out .exit)) ⌝ }
 {
     let mut hints = Hints::new(state.scale);
     let mut pen = Pen::new();

@@ -13,6 +13,7 @@ use Rattle.hints.specs.declared.hints.Hints.{Hints}
 use Rattle.hints.specs.declared.path.Path.{Path}
 use Rattle.hints.specs.Path.{strokeBy, Drew}
 use Rattle.hints.proofs.Steps.{ready-valid, drew-wrote, drew-refused}
+use Rattle.words.specs.Words.{rawAt}
 use Rattle.commands.specs.declared.reading.Read.{Read}
 use Rattle.commands.specs.declared.reading.Command.the-variants.{Mark, Draw}
 use Rattle.commands.specs.Commands.{readAt, nextAt}
@@ -82,7 +83,7 @@ module _ (c : tie.After-draw Inv-loop μ-loop) where
   no-map = sym (c .before .before .before .wants-map .ensures) ∙ c .before .before .if2 .left
 
   same-out : length (putMid (call-turn .loop .next) (length (call-turn .loop .out) - call-turn .loop .next) (call-turn .loop .out) (c .draw .last .1 .1 .1 .1 .0)) ≡ length (begin call-turn .args .out .now)
-  same-out = same-len-mid (call-turn .loop .next) (length (call-turn .loop .out) - call-turn .loop .next) (call-turn .loop .out) (c .draw .last .1 .1 .1 .1 .0) (c .draw .kept .1 .1 .1 .1 .0) ∙ call-turn .loop .inv .along .same
+  same-out = same-len-mid (call-turn .loop .next) (length (call-turn .loop .out) - call-turn .loop .next) (call-turn .loop .out) (c .draw .last .1 .1 .1 .1 .0) (c .draw .kept .1 .1 .1 .1 .0) ∙ call-turn .loop .inv .stands .along .same
 
 new-requires : tie.Need-new-requires Inv-loop μ-loop
 new-requires c κs = search needs
@@ -127,7 +128,7 @@ marked-requires c κs =
     let m = c .before .before .before in
     let l = mark-turn m in
     let a = begin l .args in
-    (l .loop .inv .kept, mask-there (a .state) (a .script .now) (a .part .now) (a .first) (a .n) (a .from) (l .loop .inv) (m .before .before .before .loop-test .taken) (mark-is m))
+    (l .loop .inv .stands .kept, mask-there (a .state) (a .script .now) (a .part .now) (a .first) (a .n) (a .from) (l .loop .inv) (m .before .before .before .loop-test .taken) (mark-is m))
 
 loop-less-2 : tie.Need-loop-less-2 Inv-loop μ-loop
 loop-less-2 c =
@@ -150,7 +151,7 @@ wants-map-requires : tie.Need-wants-map-requires Inv-loop μ-loop
 wants-map-requires c κs = search needs
 
 ready-requires : tie.Need-ready-requires Inv-loop μ-loop
-ready-requires c κs = draw-turn (c .before) .loop .inv .kept
+ready-requires c κs = draw-turn (c .before) .loop .inv .stands .kept
 
 loop-less-3 : tie.Need-loop-less-3 Inv-loop μ-loop
 loop-less-3 c =
@@ -171,19 +172,19 @@ loop-again-3 c =
 mul-draw : tie.Need-mul-draw Inv-loop μ-loop
 mul-draw c =
     let l = draw-turn (c .before) in
-    record { fits = omega (arith, room l, l .loop .inv .along .within, l .loop .inv .along .same) }
+    record { fits = omega (arith, room l, l .loop .inv .stands .along .within, l .loop .inv .stands .along .same) }
 
 sub-draw : tie.Need-sub-draw Inv-loop μ-loop
-sub-draw c = draw-turn (c .before) .loop .inv .along .within
+sub-draw c = draw-turn (c .before) .loop .inv .stands .along .within
 
 part-draw-start : tie.Need-part-draw-start Inv-loop μ-loop
-part-draw-start c = draw-turn (c .before) .loop .inv .along .within
+part-draw-start c = draw-turn (c .before) .loop .inv .stands .along .within
 
 part-draw-end : tie.Need-part-draw-end Inv-loop μ-loop
 part-draw-end c = search needs
 
 draw-requires : tie.Need-draw-requires Inv-loop μ-loop
-draw-requires c κs = draw-turn (c .before .before) .loop .inv .kept .map
+draw-requires c κs = draw-turn (c .before .before) .loop .inv .stands .kept .map
 
 enum-known-answer : tie.Need-enum-known-answer Inv-loop μ-loop
 enum-known-answer c = search needs
@@ -214,7 +215,7 @@ add-next c =
     let d = c .before .before .before .before .before in
     let l = call-turn d in
     let q = drew-wrote (drew d) (c .before .before .answer .given .0 .0) (c .before .before .answer .given .1) in
-    record { fits = omega (arith, q .count, leb-true (length (wordsOf (strokeBy (l .loop .hints .map) (begin l .args .state .scale) (l .loop .pen) (path (d .before .before .before)) .records))) (length (drop (l .loop .next) (l .loop .out))) (q .fit), length-drop (l .loop .next) (l .loop .out), l .loop .inv .along .within, room l, l .loop .inv .along .same) }
+    record { fits = omega (arith, q .count, leb-true (length (wordsOf (strokeBy (l .loop .hints .map) (begin l .args .state .scale) (l .loop .pen) (path (d .before .before .before)) .records))) (length (drop (l .loop .next) (l .loop .out))) (q .fit), length-drop (l .loop .next) (l .loop .out), l .loop .inv .stands .along .within, room l, l .loop .inv .stands .along .same) }
 
 loop-less-4 : tie.Need-loop-less-4 Inv-loop μ-loop
 loop-less-4 c =
@@ -232,7 +233,7 @@ loop-again-4 c =
     rw (moved (draw-read w), back (l .loop .next) (l .loop .out)) (turn-drew (a .state) (a .script .now) (a .part .now) (a .first) (a .n) (a .from) (l .loop .inv) (draw-read w .before .loop-test .taken) (draw-is w) (no-map d) q)
 
 same-length-2 : tie.Need-same-length-2 Inv-loop μ-loop
-same-length-2 c = c .before .loop .inv .along .same
+same-length-2 c = c .before .loop .inv .stands .along .same
 
 returns-2 : tie.Need-returns-2 Inv-loop μ-loop
 returns-2 c =
