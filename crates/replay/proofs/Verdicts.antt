@@ -6,8 +6,8 @@ use lib.IntN.{ℤ}
 use lib.ListN.{length}
 use borrow.Author.Tests.{eq-eqb, ne-eqb, lt-ltb, le-ltb}
 use Rattle.words.specs.declared.answer.Answer.{Answer}
-use Rattle.words.specs.Answers.{numberOf, placeOf}
 use Rattle.words.specs.Words.{rawAt}
+use Rattle.words.specs.Answers.{numberOf, placeOf}
 use Rattle.script.specs.Script.{Result, Scripted}
 use Rattle.replay.specs.declared.judging.Verdict.the-variants.{Same, Number, Place, Word}
 use Rattle.replay.specs.Judging.{firstDifferent, verdictOf}

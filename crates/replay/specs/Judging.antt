@@ -7,8 +7,8 @@ use lib.IntN.{ℤ, pos, negsuc}
 use lib.ListN.{length, getD, set}
 use Rattle.fixed.specs.declared.Fixed.{Fixed}
 use Rattle.fixed.specs.Fixed.{fromBits, addF, sameF}
-use Rattle.words.specs.Answers.{numberOf, placeOf}
 use Rattle.words.specs.Words.{rawAt, numberAt}
+use Rattle.words.specs.Answers.{numberOf, placeOf}
 use Rattle.script.specs.Script.{Result}
 use Rattle.replay.specs.declared.judging.Verdict.{Verdict}
 use Rattle.replay.specs.declared.judging.Verdict.the-variants.{Same, Number, Place, Word}

@@ -6,7 +6,7 @@ use words::number;
 ghost use mathlib.Core.Path.{_≡_};
 ghost use Prim.Native.Nat.{_*_, _≤_};
 ghost use lib.ListN.{length};
-ghost use Rattle.words.specs.Words.{numberAt};
+ghost use Rattle.words.specs.Words.{rawAt, numberAt};
 ghost use Rattle.script.specs.Script.{scriptOf};
 ghost use Rattle.replay.specs.Judging.{lent, firstDifferent, verdictOf};
 

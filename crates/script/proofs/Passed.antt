@@ -13,14 +13,14 @@ use Rattle.drawing.specs.Open.{newDrawing}
 use Rattle.words.specs.declared.answer.Answer.the-variants.{Ok}
 use Rattle.words.specs.Words.{rawAt, numberAt}
 use Rattle.words.specs.Answers.{firstOf}
-use Rattle.words.proofs.Rows.{both-ok}
+use Rattle.words.proofs.Answers.{both-ok}
 use Rattle.header.specs.Header.{headerRows}
 use Rattle.header.specs.Params.{paramRows, paramsOf, Whole}
 use Rattle.header.proofs.Fine.{Fine, fine, whole, counted, header-refusing, params-refusing}
 use Rattle.commands.specs.Faults.{commandRows}
 use Rattle.run.specs.Room.{fitted}
 use Rattle.run.specs.Run.{stepsOf, outcomeOf, ranOf, Runnable}
-use Rattle.script.specs.Script.{commandsIn, checkRows, zonesOf, stepsIn}
+use Rattle.script.specs.Script.{commandsIn, callsIn, checkRows, zonesOf, stepsIn}
 
 pub record Passed (s : List ℕ) : Type 0 where
   pub header : firstOf (headerRows s) ≡ Ok
@@ -63,6 +63,6 @@ runnable s p =
     }
 
 -- and their run is that of the script
-pub ran : (s : List ℕ) (out : List ℤ) → ranOf (zonesOf s) s (4 * rawAt s 6) (commandsIn s) out ≡ outcomeOf (fitted (length out) (stepsIn s)) out
+pub ran : (s : List ℕ) (out : List ℤ) → ranOf (zonesOf s) (callsIn s) out ≡ outcomeOf (fitted (length out) (stepsIn s)) out
 unfolding ranOf stepsIn
-ran s out = ap (λ (x : Fixed). outcomeOf (fitted (length out) (stepsOf (zonesOf s) s (4 * rawAt s 6) (newDrawing x) (commandsIn s))) out) (zones-scale s)
+ran s out = ap (λ (x : Fixed). outcomeOf (fitted (length out) (stepsOf (zonesOf s) (newDrawing x) (callsIn s))) out) (zones-scale s)

@@ -14,11 +14,11 @@ use Rattle.words.specs.declared.answer.Answer.{Answer}
 use Rattle.words.specs.declared.answer.Answer.the-variants.{NoRoom}
 use Rattle.drawing.specs.Open.{newDrawing}
 use Rattle.words.specs.Words.{rawAt, numberAt}
-use Rattle.words.specs.Answers.{numberOf, refuses, firstOf}
+use Rattle.words.specs.Answers.{firstOf, numberOf, refuses}
 use Rattle.commands.proofs.Laws.{at-most}
 use Rattle.run.specs.Room.{Fitted, fitted}
-use Rattle.run.proofs.Bounds.{ten-each}
-use Rattle.script.specs.Script.{commandsIn, checkRows, zonesOf, stepsIn, resultWords, Result, leftBy, endedBy, resultBy, scriptOf, Scripted}
+use Rattle.run.proofs.Bounds.{ten-each, calls-many}
+use Rattle.script.specs.Script.{commandsIn, callsIn, checkRows, zonesOf, stepsIn, resultWords, Result, leftBy, endedBy, resultBy, scriptOf, Scripted}
 use Rattle.script.proofs.Passed.{Passed}
 
 -- an answer numbered from 1 refuses
@@ -80,4 +80,4 @@ behind ws out h =
 -- a result has no more words than a header can say
 pub short : (s : List ℕ) (room : ℕ) → Passed s → length (fitted room (stepsIn s) .words) ≤ 163840
 unfolding stepsIn
-short s room p = omega (arith, p .fine .ends, p .fine .short, ten-each (zonesOf s) s (4 * rawAt s 6) (newDrawing (numberAt (rawAt s) 1)) (commandsIn s) room, at-most (rawAt s 4) (drop (4 * rawAt s 4) s) (rawAt s 5))
+short s room p = omega (arith, p .fine .ends, p .fine .short, ten-each (zonesOf s) (newDrawing (numberAt (rawAt s) 1)) (callsIn s) room, calls-many s (4 * rawAt s 6) (commandsIn s), at-most (rawAt s 4) (rawAt (drop (4 * rawAt s 4) s)) (rawAt s 5))

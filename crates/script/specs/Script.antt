@@ -13,14 +13,15 @@ use Rattle.drawing.specs.Open.{newDrawing}
 use Rattle.words.specs.declared.answer.Answer.{Answer}
 use Rattle.words.specs.declared.answer.Answer.the-variants.{NoRoom}
 use Rattle.words.specs.Words.{rawAt, numberAt}
-use Rattle.words.specs.Answers.{refuses, Row, firstOf}
+use Rattle.words.specs.Rows.{Row}
+use Rattle.words.specs.Answers.{firstOf, refuses}
 use Rattle.header.specs.Header.{headerRows}
 use Rattle.header.specs.Params.{paramRows, paramsOf}
 use Rattle.commands.specs.Commands.{Placed, commandsOf}
 use Rattle.commands.specs.Faults.{commandRows}
 use Rattle.run.specs.Count.{recordsIn}
 use Rattle.run.specs.Room.{Step, Fitted, fitted}
-use Rattle.run.specs.Run.{stepsOf}
+use Rattle.run.specs.Run.{Asked, callsOf, stepsOf}
 
 -- ---- the tests
 -- the commands: as many words as word 5 says, from the offset in word 4 on
@@ -36,9 +37,13 @@ checkRows s = headerRows s ++ (paramRows (rawAt s) ++ commandRows (rawAt s 7) (c
 unfoldable pub zonesOf : List ℕ → HintState
 zonesOf s = stateOf (paramsOf (rawAt s)) (numberAt (rawAt s) 1)
 
--- the record words of each command, over a new drawing; the mask bytes start at the offset in word 6
+-- the commands as calls; the mask bytes start at the offset in word 6
+abbrev pub callsIn : List ℕ → List Asked
+callsIn s = callsOf s (4 * rawAt s 6) (commandsIn s)
+
+-- the record words of each call, over a new drawing
 unfoldable pub stepsIn : List ℕ → List Step
-stepsIn s = stepsOf (zonesOf s) s (4 * rawAt s 6) (newDrawing (numberAt (rawAt s) 1)) (commandsIn s)
+stepsIn s = stepsOf (zonesOf s) (newDrawing (numberAt (rawAt s) 1)) (callsIn s)
 
 -- ---- the result
 -- header 1, record count, 4, record words; then the records

@@ -12,8 +12,10 @@ use borrow.Author.Tests.{lt-ltb, le-ltb, ltb-true, ltb-false}
 use Rattle.words.specs.declared.answer.Answer.{Answer}
 use Rattle.words.specs.declared.answer.Answer.the-variants.{Ok, BadScript, BadScale, BadBlues, BadCommand, BadMask, NoRoom}
 use Rattle.words.specs.Words.{rawAt}
-use Rattle.words.specs.Answers.{numberOf, placeOf, refuses, Row, firstOf, rowAt, First}
-use Rattle.words.proofs.Rows.{first-given, first-gives, found, onward, not-refused, is-refused}
+use Rattle.words.specs.Rows.{Row, rowAt, First}
+use Rattle.words.specs.Answers.{firstOf, numberOf, placeOf, refuses}
+use Rattle.words.proofs.Rows.{first-given, first-gives, found, onward}
+use Rattle.words.proofs.Answers.{refusal, not-refused, is-refused}
 use Rattle.header.specs.Header.{headerRows}
 use Rattle.header.specs.Params.{paramRows}
 use Rattle.header.proofs.Fine.{header-refusing, params-refusing}
@@ -32,7 +34,7 @@ abbrev OnlyScript : List (Row Answer) → Type 0
 OnlyScript [] = Unit {0}
 OnlyScript (r ∷ rs) = (r .said ≡ BadScript (placeOf (r .said))) × OnlyScript rs
 
-says-script : (rs : List (Row Answer)) → OnlyScript rs → (k : ℕ) → k < length rs → rowAt rs k .said ≡ BadScript (placeOf (rowAt rs k .said))
+says-script : (rs : List (Row Answer)) → OnlyScript rs → (k : ℕ) → k < length rs → rowAt Ok rs k .said ≡ BadScript (placeOf (rowAt Ok rs k .said))
 says-script [] o k h = absurd (omega arith)
 says-script (r ∷ rs) o zero h = o .0
 says-script (r ∷ rs) o (suc k) h = says-script rs (o .1) k (omega arith)
@@ -46,18 +48,18 @@ module _ (s : List ℕ) where
   -- ---- all tests
   by-header : (a : Answer) → 0 < numberOf a → firstOf (headerRows s) ≡ a → firstOf (checkRows s) ≡ a
   unfolding checkRows
-  by-header a h e = found (headerRows s) (paramRows (rawAt s) ++ commandRows (rawAt s 7) (commandsIn s)) (rw e h) ∙ e
+  by-header a h e = found Ok (headerRows s) (paramRows (rawAt s) ++ commandRows (rawAt s 7) (commandsIn s)) (refusal (rw e h)) ∙ e
 
   module _ (h : HeaderFine s) where
     past-header : firstOf (checkRows s) ≡ firstOf (paramRows (rawAt s) ++ commandRows (rawAt s 7) (commandsIn s))
     unfolding checkRows
-    past-header = onward (headerRows s) (paramRows (rawAt s) ++ commandRows (rawAt s 7) (commandsIn s)) (header-refusing s) h
+    past-header = onward Ok (headerRows s) (paramRows (rawAt s) ++ commandRows (rawAt s 7) (commandsIn s)) (header-refusing s) h
 
     by-params : (a : Answer) → 0 < numberOf a → firstOf (paramRows (rawAt s)) ≡ a → firstOf (checkRows s) ≡ a
-    by-params a l e = past-header ∙ found (paramRows (rawAt s)) (commandRows (rawAt s 7) (commandsIn s)) (rw e l) ∙ e
+    by-params a l e = past-header ∙ found Ok (paramRows (rawAt s)) (commandRows (rawAt s 7) (commandsIn s)) (refusal (rw e l)) ∙ e
 
     by-commands : firstOf (paramRows (rawAt s)) ≡ Ok → firstOf (checkRows s) ≡ firstOf (commandRows (rawAt s 7) (commandsIn s))
-    by-commands p = past-header ∙ onward (paramRows (rawAt s)) (commandRows (rawAt s 7) (commandsIn s)) (params-refusing s) p
+    by-commands p = past-header ∙ onward Ok (paramRows (rawAt s)) (commandRows (rawAt s 7) (commandsIn s)) (params-refusing s) p
 
     in-commands : {cs : List Placed} {a : Answer} → firstOf (paramRows (rawAt s)) ≡ Ok → commandsIn s ≡ cs → firstOf (commandRows (rawAt s 7) cs) ≡ a → firstOf (checkRows s) ≡ a
     in-commands p e f = by-commands p ∙ ap (λ (l : List Placed). firstOf (commandRows (rawAt s 7) l)) e ∙ f
@@ -99,13 +101,13 @@ module _ (s : List ℕ) where
     abbrev Met : Type 0
     Met = (a : Answer) × When s out a
 
-    header-row : (a : Answer) → First (headerRows s) a → Met
+    header-row : (a : Answer) → First Ok (headerRows s) a → Met
     header-row a f = (BadScript p, header (record { place = f .place; there = f .there; holds = f .holds; says = e; before = f .before }))
       where
         p : ℕ
-        p = placeOf (rowAt (headerRows s) (f .place) .said)
+        p = placeOf (rowAt Ok (headerRows s) (f .place) .said)
 
-        e : rowAt (headerRows s) (f .place) .said ≡ BadScript p
+        e : rowAt Ok (headerRows s) (f .place) .said ≡ BadScript p
         e = says-script (headerRows s) only-script (f .place) (f .there)
 
     run-row : Checked s → 4 ≤ length out → (length (wordsAlong (stepsIn s)) ≤ length out - 4) ⊎ Over (length out - 4) (stepsIn s) → Met
@@ -132,7 +134,7 @@ module _ (s : List ℕ) where
     params-row h (inr m) = m
 
     some-row : (b : Bool) → refuses (firstOf (headerRows s)) ≡ b → Met
-    some-row true e = header-row (firstOf (headerRows s)) (first-given (headerRows s) (firstOf (headerRows s)) (is-refused (firstOf (headerRows s)) e) refl)
+    some-row true e = header-row (firstOf (headerRows s)) (first-given Ok (headerRows s) (firstOf (headerRows s)) (refusal (is-refused (firstOf (headerRows s)) e)) refl)
     some-row false e =
         let h = not-refused (firstOf (headerRows s)) e in
         params-row h (params-or-row s out h)

@@ -5,6 +5,7 @@ use mathlib.Core.List.{List, [], _∷_, _++_}
 use mathlib.Core.Logic.{_⊎_, inl, inr}
 use Prim.Native.Nat.{ℕ}
 use Rattle.words.specs.declared.answer.Answer.the-variants.{Ok, BadCommand, BadMask}
+use Rattle.words.specs.Rows.{firstOr}
 use Rattle.words.specs.Answers.{firstOf}
 use Rattle.words.proofs.Rows.{onward}
 use Rattle.commands.specs.declared.reading.Marking.the-variants.{Bad, Stem, Mask, Counter, Clear, Close}
@@ -33,7 +34,7 @@ module _ (bytes : ℕ) where
   -- behind commands without a fault
   module _ (before : List Placed) (at : Placed) (after : List Placed) (fine : firstOf (commandRows bytes before) ≡ Ok) where
     behind : firstOf (commandRows bytes (before ++ at ∷ after)) ≡ firstOf (commandRows bytes (at ∷ after))
-    behind = ap firstOf (rows-append before (at ∷ after)) ∙ onward (commandRows bytes before) (commandRows bytes (at ∷ after)) (rows-refusing bytes before) fine
+    behind = ap firstOf (rows-append before (at ∷ after)) ∙ onward Ok (commandRows bytes before) (commandRows bytes (at ∷ after)) (rows-refusing bytes before) fine
 
     pub command-answer : isBad (at .command) ≡ true → firstOf (commandRows bytes (before ++ at ∷ after)) ≡ BadCommand (at .place)
     unfolding commandRows firstOr

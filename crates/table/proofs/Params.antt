@@ -14,7 +14,8 @@ use Rattle.fixed.proofs.Order.{heights}
 use Rattle.words.specs.declared.answer.Answer.{Answer}
 use Rattle.words.specs.declared.answer.Answer.the-variants.{Ok, BadScript, BadScale, BadBlues}
 use Rattle.words.specs.Words.{rawAt, wordAt, numberAt}
-use Rattle.words.specs.Answers.{Row, row, firstOf, rowAt}
+use Rattle.words.specs.Rows.{Row, row, firstOr, rowAt}
+use Rattle.words.specs.Answers.{firstOf}
 use Rattle.header.specs.Params.{pairsIn, paramRows}
 use Rattle.header.proofs.Tests.{Past, pass, stop, same, other}
 use Rattle.table.specs.Demand1.{HeaderFine, ScaleFine, CountsFine, PairsFine, pairs, When}
@@ -25,7 +26,7 @@ module _ (s : List ℕ) where
   FirstFine k = (j : ℕ) → 12 ≤ j → j < 12 + k → rawAt s j ≤ 7
 
   -- the test of the count at word 12 + k
-  count-row : (k : ℕ) → k < 4 → rowAt (paramRows (rawAt s)) (suc k) ≡ row (ltb 7 (rawAt s (12 + k))) (BadBlues (12 + k))
+  count-row : (k : ℕ) → k < 4 → rowAt Ok (paramRows (rawAt s)) (suc k) ≡ row (ltb 7 (rawAt s (12 + k))) (BadBlues (12 + k))
   unfolding paramRows
   count-row zero h = refl
   count-row (suc zero) h = refl

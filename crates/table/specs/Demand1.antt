@@ -10,7 +10,8 @@ use Rattle.pen.specs.Records.{written}
 use Rattle.words.specs.declared.answer.Answer.{Answer}
 use Rattle.words.specs.declared.answer.Answer.the-variants.{Ok, BadScript, BadScale, BadBlues, BadCommand, BadMask, NoRoom}
 use Rattle.words.specs.Words.{rawAt, wordAt}
-use Rattle.words.specs.Answers.{firstOf, First}
+use Rattle.words.specs.Rows.{First}
+use Rattle.words.specs.Answers.{firstOf}
 use Rattle.header.specs.Header.{headerRows}
 use Rattle.header.specs.Params.{pairsIn, paramRows}
 use Rattle.commands.specs.declared.reading.Command.{Command}
@@ -41,7 +42,7 @@ Checked s = firstOf (checkRows s) ≡ Ok
 -- ---- the rows
 -- 1: a test of the header holds, the first that does giving the place; or, after the counts, word 3 is not 8 + 2·pairs
 pub data BadScriptWhen (s : List ℕ) (p : ℕ) : Type 0 where
-  header : First (headerRows s) (BadScript p) → BadScriptWhen s p
+  header : First Ok (headerRows s) (BadScript p) → BadScriptWhen s p
   pairs : HeaderFine s → ScaleFine s → CountsFine s → (PairsFine s → ⊥) → p ≡ 3 → BadScriptWhen s p
 
 -- 2: scale below 1

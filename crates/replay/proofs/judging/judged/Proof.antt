@@ -2,8 +2,8 @@
 use mathlib.Core.Path.{_≡_, sym, ap, _∙_}
 use lib.ListN.{length}
 use Rattle.fixed.specs.declared.Fixed.{Fixed}
-use Rattle.words.specs.Answers.{numberOf, placeOf}
 use Rattle.words.specs.Words.{rawAt, numberAt}
+use Rattle.words.specs.Answers.{numberOf, placeOf}
 use Rattle.script.specs.Script.{Scripted, scriptOf}
 use Rattle.replay.specs.declared.judging.Verdict.the-variants.{Word}
 use Rattle.replay.specs.Judging.{lent}

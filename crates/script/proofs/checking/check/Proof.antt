@@ -5,8 +5,9 @@ use native.Mathlib.Omega.{arith}
 use borrow.Author.Needs.{needs}
 use Rattle.words.specs.declared.answer.Answer.the-variants.{Ok}
 use Rattle.words.specs.Words.{rawAt}
-use Rattle.words.specs.Answers.{numberOf, firstOf}
-use Rattle.words.proofs.Rows.{found, onward, is-ok}
+use Rattle.words.specs.Answers.{firstOf, numberOf}
+use Rattle.words.proofs.Rows.{found, onward}
+use Rattle.words.proofs.Answers.{refusal, is-ok}
 use Rattle.header.specs.Header.{headerRows}
 use Rattle.header.specs.Params.{paramRows}
 use Rattle.header.proofs.Fine.{Fine, fine, header-refusing, params-refusing}
@@ -35,7 +36,7 @@ unfolding checkRows
 returns c =
     let h = c .before .before .check-header .ensures in
     let s = c .before .before .before .before .args .script .now in
-    h ∙ sym (found (headerRows s) (paramRows (rawAt s) ++ commandRows (rawAt s 7) (commandsIn s)) (omega (arith, ap numberOf h, c .before .code .ensures, c .if1 .taken)))
+    h ∙ sym (found Ok (headerRows s) (paramRows (rawAt s) ++ commandRows (rawAt s 7) (commandsIn s)) (refusal (omega (arith, ap numberOf h, c .before .code .ensures, c .if1 .taken))))
 
 check-params-requires : tie.Need-check-params-requires
 check-params-requires c κs = header-fine c .enough
@@ -49,7 +50,7 @@ returns-2 c =
     let q = c .before .before .check-params .ensures in
     let e = c .before .before .before in
     let s = e .before .before .before .before .args .script .now in
-    q ∙ sym (onward (headerRows s) (paramRows (rawAt s) ++ commandRows (rawAt s 7) (commandsIn s)) (header-refusing s) (header-ok e) ∙ found (paramRows (rawAt s)) (commandRows (rawAt s 7) (commandsIn s)) (omega (arith, ap numberOf q, c .before .code2 .ensures, c .if2 .taken)))
+    q ∙ sym (onward Ok (headerRows s) (paramRows (rawAt s) ++ commandRows (rawAt s 7) (commandsIn s)) (header-refusing s) (header-ok e) ∙ found Ok (paramRows (rawAt s)) (commandRows (rawAt s 7) (commandsIn s)) (refusal (omega (arith, ap numberOf q, c .before .code2 .ensures, c .if2 .taken))))
 
 natural-requires : tie.Need-natural-requires
 natural-requires c κs = omega (arith, header-fine (c .before .before .before) .enough)
@@ -72,7 +73,7 @@ returns-3 c =
     let h = e .before .before .before in
     let s = h .before .before .before .before .args .script .now in
     rw (c .before .before .before .natural .ensures .0, c .before .before .natural2 .ensures .0, c .before .natural3 .ensures .0) at (c .check-commands .ensures) ∙
-    sym (onward (headerRows s) (paramRows (rawAt s) ++ commandRows (rawAt s 7) (commandsIn s)) (header-refusing s) (header-ok h) ∙ onward (paramRows (rawAt s)) (commandRows (rawAt s 7) (commandsIn s)) (params-refusing s) (params-ok e))
+    sym (onward Ok (headerRows s) (paramRows (rawAt s) ++ commandRows (rawAt s 7) (commandsIn s)) (header-refusing s) (header-ok h) ∙ onward Ok (paramRows (rawAt s)) (commandRows (rawAt s 7) (commandsIn s)) (params-refusing s) (params-ok e))
 
 pub check-spec : {M : Type 1} → statement M
 check-spec =

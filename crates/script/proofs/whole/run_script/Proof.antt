@@ -14,8 +14,8 @@ use Rattle.run.specs.Run.{outcomeOf, Ended}
 use Rattle.run.proofs.Bounds.{within-room}
 use Rattle.run.proofs.Counting.{few-records}
 use Rattle.words.specs.declared.answer.Answer.the-variants.{Ok}
-use Rattle.words.specs.Answers.{numberOf, refuses, firstOf}
-use Rattle.words.proofs.Rows.{not-refused}
+use Rattle.words.specs.Answers.{firstOf, numberOf, refuses}
+use Rattle.words.proofs.Answers.{not-refused}
 use Rattle.run.specs.declared.running.Ran.{Ran}
 use Rattle.run.proofs.Filling.{back}
 use Rattle.commands.proofs.Laws.{lent}

@@ -5,6 +5,7 @@ use Rattle.zones.specs.declared.state.HintParams.{HintParams}
 use Rattle.zones.specs.State.{stateOf}
 use Rattle.header.specs.Params.{paramsOf}
 use Rattle.header.proofs.Fine.{counted, scaled}
+use Rattle.words.specs.Words.{rawAt}
 use Rattle.script.specs.Script.{zonesOf}
 use Rattle.script.proofs.Passed.{passed}
 use Rattle.script.proofs.whole.zones_of.Statement.{statement}
