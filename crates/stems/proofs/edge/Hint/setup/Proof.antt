@@ -16,7 +16,7 @@ use Rattle.stems.proofs.edge.Hint.setup.Tie as tie
 module _ (st : StemHint) (i : ℕ) (s : Fixed) (b : Bool) (h : Shape) (e : Hint) (p : h ≡ shapeOf st) (q : e ≡ edgeOf h b i s) where
   by-use : (u v : Bool) → st .«is_used» ≡ u → isValid e ≡ v → setupOf st i s b ≡ usedBy (u && v) st e
   unfolding setupOf
-  by-use u v x y = cc
+  by-use u v x y = rw (sym p, sym q, x, y)
 
   by-side : (t : Bool) → st .«is_used» ≡ true → isValid e ≡ true → isTop e ≡ t → setupOf st i s b ≡ lockedAt e (cond t (st .«ds_max») (st .«ds_min»))
   by-side t x y z = by-use true true x y ∙ rw z

@@ -12,7 +12,7 @@ at-requires c κs = search needs
 
 returns : tie.Need-returns
 unfolding edgeOf
-returns c = rw (c .before .before .before .self .given .1, c .before .if1 .taken) (cc)
+returns c = rw (c .before .before .before .self .given .1, c .before .if1 .taken) (c .at .ensures)
 
 at-requires-2 : tie.Need-at-requires-2
 at-requires-2 c κs = search needs
@@ -25,7 +25,7 @@ at-requires-3 c κs = search needs
 
 returns-2 : tie.Need-returns-2
 unfolding edgeOf
-returns-2 c = rw (c .before .before .before .self2 .given .1, c .before .if2 .taken) (cc)
+returns-2 c = rw (c .before .before .before .self2 .given .1, c .before .if2 .taken) (c .at3 .ensures)
 
 at-requires-4 : tie.Need-at-requires-4
 at-requires-4 c κs = search needs
@@ -38,22 +38,22 @@ at-requires-5 c κs = search needs
 
 returns-3 : tie.Need-returns-3
 unfolding edgeOf
-returns-3 c = rw (c .before .before .before .self3 .given .1, c .before .if3 .taken) (cc)
+returns-3 c = rw (c .before .before .before .self3 .given .1, c .before .if3 .taken) (c .at5 .ensures)
 
 at-requires-6 : tie.Need-at-requires-6
 at-requires-6 c κs = search needs
 
 returns-4 : tie.Need-returns-4
 unfolding edgeOf
-returns-4 c = rw (c .before .before .before .self .given .1, c .before .if1 .left) (cc)
+returns-4 c = rw (c .before .before .before .self .given .1, c .before .if1 .left) (c .at2 .ensures)
 
 returns-5 : tie.Need-returns-5
 unfolding edgeOf
-returns-5 c = rw (c .before .before .before .self2 .given .1, c .before .if2 .left) (cc)
+returns-5 c = rw (c .before .before .before .self2 .given .1, c .before .if2 .left) (c .at4 .ensures)
 
 returns-6 : tie.Need-returns-6
 unfolding edgeOf
-returns-6 c = rw (c .before .before .before .self3 .given .1, c .before .if3 .left) (cc)
+returns-6 c = rw (c .before .before .before .self3 .given .1, c .before .if3 .left) (c .at6 .ensures)
 
 pub edge-spec : {M : Type 1} → statement M
 edge-spec =
