@@ -43,7 +43,10 @@ validate-requires c κs = search needs
 
 returns : tie.Need-returns
 unfolding initialOf
-returns c = cc
+returns c =
+    let p = c .before .before .before in
+    let b = p .before .before .before in
+    rw (c .before .adjust .ensures, c .before .before .with-baseline .ensures, p .before .place-locked .ensures, p .before .before .all .ensures, b .with-em-box .ensures, b .before .new .ensures) at (c .validate .ensures)
 
 pub build-initial-spec : {M : Type 1} → statement M
 build-initial-spec =

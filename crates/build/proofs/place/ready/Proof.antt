@@ -15,7 +15,7 @@ use Rattle.build.proofs.place.ready.Tie as tie
 module _ (st : HintState) (stem : StemHint) (i : ℕ) (b t : Hint) (p : b ≡ setupOf stem i (st .scale) true) (q : t ≡ setupOf stem i (st .scale) false) where
   ready-by : (u v : Bool) → b .locked ≡ u → t .locked ≡ v → readyOf st stem i ≡ readyBy (u || v) st b t
   unfolding readyOf
-  ready-by u v x y = cc
+  ready-by u v x y = rw (sym p, sym q, x, y)
 
 setup-requires : tie.Need-setup-requires
 setup-requires c κs = search needs

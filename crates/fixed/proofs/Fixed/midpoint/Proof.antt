@@ -15,7 +15,7 @@ add-requires c κs = search needs
 
 returns : tie.Need-returns
 unfolding midpointF
-returns c = cc
+returns c = rw (c .before .half .ensures, c .before .before .sub .ensures) at (c .add .ensures)
 
 pub midpoint-spec : {M : Type 1} → statement M
 midpoint-spec = tie.close (tie.spec sub-requires half-requires add-requires returns)

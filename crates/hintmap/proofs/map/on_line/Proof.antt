@@ -15,7 +15,7 @@ add-requires c κs = search needs
 
 returns : tie.Need-returns
 unfolding line
-returns c = cc
+returns c = rw (c .before .mul .ensures, c .before .before .sub .ensures) at (c .add .ensures)
 
 pub on-line-spec : {M : Type 1} → statement M
 on-line-spec = tie.close (tie.spec sub-requires mul-requires add-requires returns)

@@ -10,7 +10,7 @@ less-requires : tie.Need-less-requires
 less-requires c κs = search needs
 
 returns : tie.Need-returns
-returns c = cc
+returns c = rw (c .before .first .ensures) at (c .less .ensures)
 
 pub under-spec : {M : Type 1} → statement M
 under-spec = tie.close (tie.spec first-requires less-requires returns)

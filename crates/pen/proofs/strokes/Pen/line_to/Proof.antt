@@ -9,7 +9,7 @@ flushing-requires c κs = search needs
 
 returns : tie.Need-returns
 unfolding lineOf
-returns c = cc
+returns c = rw (c .flushing .ensures)
 
 pub line-to-spec : {M : Type 1} → statement M
 line-to-spec = tie.close (tie.spec flushing-requires returns)
