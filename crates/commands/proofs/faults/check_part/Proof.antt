@@ -47,7 +47,7 @@ returns c =
     let f = c .before .before in
     let l = f .before .before .before in
     let a = l .before .before .args in
-    fault-here (a .first) (rawAt (a .part .now)) (a .n) (a .bytes) (l .loop .at) (omega arith) (f .fault-in .result) (cc) (omega (arith, c .before .code .ensures, c .if1 .taken)) ∙
+    fault-here (a .first) (rawAt (a .part .now)) (a .n) (a .bytes) (l .loop .at) (omega arith) (f .fault-in .result) (rw (ap (λ (r : Read). r .command) (f .before .read-command .ensures)) at (f .fault-in .ensures)) (omega (arith, c .before .code .ensures, c .if1 .taken)) ∙
     sym (l .loop .inv)
 
 loop-less : tie.Need-loop-less Inv-loop μ-loop
@@ -60,7 +60,7 @@ loop-again c =
     let a = l .before .before .args in
     rw (moved (f .before))
     (l .loop .inv ∙
-    fault-behind (a .first) (rawAt (a .part .now)) (a .n) (a .bytes) (l .loop .at) (omega arith) (f .fault-in .result) (cc) (omega (arith, c .before .code .ensures, c .if1 .left)))
+    fault-behind (a .first) (rawAt (a .part .now)) (a .n) (a .bytes) (l .loop .at) (omega arith) (f .fault-in .result) (rw (ap (λ (r : Read). r .command) (f .before .read-command .ensures)) at (f .fault-in .ensures)) (omega (arith, c .before .code .ensures, c .if1 .left)))
 
 returns-2 : tie.Need-returns-2 Inv-loop μ-loop
 unfolding firstOr

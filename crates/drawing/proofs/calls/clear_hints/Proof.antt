@@ -10,7 +10,7 @@ with-hints-requires : tie.Need-with-hints-requires
 with-hints-requires c κs = search needs
 
 returns : tie.Need-returns
-returns c = cc (c .with-hints .ensures, c .before .new .ensures)
+returns c = rw (c .before .new .ensures) at (c .with-hints .ensures)
 
 pub clear-hints-spec : {M : Type 1} → statement M
 clear-hints-spec = tie.close (tie.spec new-requires with-hints-requires returns)

@@ -10,7 +10,7 @@ with-hints-requires : tie.Need-with-hints-requires
 with-hints-requires c κs = search needs
 
 returns : tie.Need-returns
-returns c = cc (c .with-hints .ensures, c .before .counter .ensures)
+returns c = rw (c .before .counter .ensures) at (c .with-hints .ensures)
 
 pub counter-mask-spec : {M : Type 1} → statement M
 counter-mask-spec = tie.close (tie.spec counter-requires with-hints-requires returns)

@@ -10,7 +10,7 @@ with-hints-requires : tie.Need-with-hints-requires
 with-hints-requires c κs = search needs
 
 returns : tie.Need-returns
-returns c = cc (c .with-hints .ensures, c .before .with-mask .ensures)
+returns c = rw (c .before .with-mask .ensures) at (c .with-hints .ensures)
 
 pub hint-mask-spec : {M : Type 1} → statement M
 hint-mask-spec = tie.close (tie.spec with-mask-requires with-hints-requires returns)

@@ -10,7 +10,7 @@ with-hints-requires : tie.Need-with-hints-requires
 with-hints-requires c κs = search needs
 
 returns : tie.Need-returns
-returns c = cc (c .with-hints .ensures, c .before .with-stem .ensures)
+returns c = rw (c .before .with-stem .ensures) at (c .with-hints .ensures)
 
 pub hstem-spec : {M : Type 1} → statement M
 hstem-spec = tie.close (tie.spec with-stem-requires with-hints-requires returns)
