@@ -229,16 +229,16 @@ locked-places st initial given i x p has =
 abbrev Awaits : ℕ → ℕ → HintMask → ℕ → Type 0
 Awaits n i rest k = (n ≤ k) ⊎ ((i ≤ k) × (isActive rest k ≡ true))
 
-free-places : (n : ℕ) (s : Fixed) (initial : HintMap) (i : ℕ) (x : StemHint) (p : Placed) → i < n → Places (Awaits n i (p .rest)) (p .map) →
-    let q = freeTurn s initial p i x in
+free-places : (n : ℕ) (st : HintState) (initial : HintMap) (i : ℕ) (x : StemHint) (p : Placed) → i < n → Places (Awaits n i (p .rest)) (p .map) →
+    let q = freeTurn st initial p i x in
     Places (Awaits n (suc i) (q .rest)) (q .map)
-free-places n s initial i x p l has =
+free-places n st initial i x p l has =
     let waits : (k : ℕ) → Awaits n (suc i) (p .rest) k → Awaits n i (p .rest) k = λ k. ⊎-elim inl (λ h. inr (omega arith, h .1)) in
     free-cases initial p i x (λ (q : Placed). Places (Awaits n (suc i) (q .rest)) (q .map))
     (places-fewer (Awaits n i (p .rest)) (Awaits n (suc i) (p .rest)) (p .map) has waits)
-    s
+    st
     (λ e. places-more (Awaits n i (p .rest)) (Awaits n (suc i) (p .rest)) (p .map) has i _ _
-    (setup-index x i s true) (setup-index x i s false) (made-setup x i s) (inr (le-refl i, e)) (⊎-elim (λ h. omega arith) (λ h. omega arith)) (λ k d. waits k) initial true)
+    (setup-index x i (st .scale) true) (setup-index x i (st .scale) false) (made-setup x i (st .scale)) (inr (le-refl i, e)) (⊎-elim (λ h. omega arith) (λ h. omega arith)) (λ k d. waits k) initial true)
 
 module _ (st : HintState) (mask : HintMask) (initial : HintMap) (ss : Stems) where
   abbrev edges : List Hint
@@ -260,7 +260,7 @@ module _ (st : HintState) (mask : HintMask) (initial : HintMap) (ss : Stems) whe
   built-places =
       let p = lockedPlaced st mask initial ss in
       let one : Places (Waits n (p .rest)) (p .map) = round-keeps (locked-round st initial true) n (λ (i : ℕ) (q : Placed). Places (Waits i (q .rest)) (q .map)) (λ i x q l. locked-places st initial true i x q) 0 (declaredIn ss) _ (omega arith) (boxed-places _) in
-      let two = round-keeps (free-round (st .scale) initial) n (λ (i : ℕ) (q : Placed). Places (Awaits n i (q .rest)) (q .map)) (free-places n (st .scale) initial) 0 (declaredIn ss) p (omega arith) (places-fewer _ _ _ one (λ k. ⊎-elim inl (λ h. inr (h .1)))) in
+      let two = round-keeps (free-round st initial) n (λ (i : ℕ) (q : Placed). Places (Awaits n i (q .rest)) (q .map)) (free-places n st initial) 0 (declaredIn ss) p (omega arith) (places-fewer _ _ _ one (λ k. ⊎-elim inl (λ h. inr (h .1)))) in
       places-fewer _ _ _ two (λ k. inl)
 
   built-tally : (top : Bool) (k : ℕ) → tally top k edges ≡ tally top k (view (placedOf st mask initial ss))

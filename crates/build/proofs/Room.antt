@@ -3,7 +3,6 @@ use mathlib.Core.Path.{_≡_, _∙_}
 use mathlib.Core.Bool.{Bool, true}
 use Prim.Native.Nat.{ℕ, _≤_}
 use native.Mathlib.Omega.{arith}
-use Rattle.fixed.specs.declared.Fixed.{Fixed}
 use Rattle.stems.specs.declared.edge.StemHint.{StemHint}
 use Rattle.zones.specs.declared.state.HintState.{HintState}
 use Rattle.hintmap.specs.declared.map.HintMap.{HintMap}
@@ -44,5 +43,5 @@ baselined-len = baselined-keeps Few few
 pub locked-len : (st : HintState) (initial : HintMap) (given : Bool) (p : Placed) (i : ℕ) (x : StemHint) → p .map .len ≤ 96 → lockedTurn st initial given p i x .map .len ≤ 96
 locked-len = locked-keeps Few few
 
-pub free-len : (s : Fixed) (initial : HintMap) (p : Placed) (i : ℕ) (x : StemHint) → p .map .len ≤ 96 → freeTurn s initial p i x .map .len ≤ 96
+pub free-len : (st : HintState) (initial : HintMap) (p : Placed) (i : ℕ) (x : StemHint) → p .map .len ≤ 96 → freeTurn st initial p i x .map .len ≤ 96
 free-len = free-keeps Few few

@@ -7,7 +7,6 @@ use native.Mathlib.Numerals.{add-one}
 use native.Mathlib.Omega.{arith}
 use lib.ListN.{length, drop, getD, drop-of-length-le}
 use lib.Seq.{drop-cons, getD-take, length-take-le}
-use Rattle.fixed.specs.declared.Fixed.{Fixed}
 use Rattle.stems.specs.declared.edge.StemHint.{StemHint}
 use Rattle.zones.specs.declared.state.HintState.{HintState}
 use Rattle.hintmap.specs.declared.map.HintMap.{HintMap}
@@ -28,9 +27,9 @@ unfolding lockedTurns
 locked-round st initial given = record { ends = λ i p. refl; more = λ i x xs p. refl; few = locked-len st initial given }
 
 -- the second round is one
-pub free-round : (s : Fixed) (initial : HintMap) → Round (freeTurn s initial) (freeTurns s initial)
+pub free-round : (st : HintState) (initial : HintMap) → Round (freeTurn st initial) (freeTurns st initial)
 unfolding freeTurns
-free-round s initial = record { ends = λ i p. refl; more = λ i x xs p. refl; few = free-len s initial }
+free-round st initial = record { ends = λ i p. refl; more = λ i x xs p. refl; few = free-len st initial }
 
 -- what is left, taken from stem i on, gives the whole
 abbrev pub Left : (ℕ → List StemHint → Placed → Placed) → Stems → Placed → Placed → ℕ → Type 0

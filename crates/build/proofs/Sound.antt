@@ -4,7 +4,6 @@ use mathlib.Core.Bool.{Bool, true}
 use mathlib.Core.List.{List}
 use Prim.Native.Nat.{ℕ, _+_}
 use lib.ListN.{length}
-use Rattle.fixed.specs.declared.Fixed.{Fixed}
 use Rattle.stems.specs.declared.mask.HintMask.{HintMask}
 use Rattle.stems.specs.declared.edge.StemHint.{StemHint}
 use Rattle.zones.specs.declared.state.HintState.{HintState}
@@ -33,9 +32,9 @@ module _ (P : HintMap → Type 0) (keep : Stable P) where
       round-keeps (locked-round st initial given) (i + length xs) (λ (j : ℕ) (q : Placed). P (q .map)) (λ j x q l. locked-keeps P keep st initial given q j x) i xs p refl h
 
   -- so does the second
-  free-turns-keep : (s : Fixed) (initial : HintMap) (i : ℕ) (xs : List StemHint) (p : Placed) → P (p .map) → P (freeTurns s initial i xs p .map)
-  free-turns-keep s initial i xs p h =
-      round-keeps (free-round s initial) (i + length xs) (λ (j : ℕ) (q : Placed). P (q .map)) (λ j x q l. free-keeps P keep s initial q j x) i xs p refl h
+  free-turns-keep : (st : HintState) (initial : HintMap) (i : ℕ) (xs : List StemHint) (p : Placed) → P (p .map) → P (freeTurns st initial i xs p .map)
+  free-turns-keep st initial i xs p h =
+      round-keeps (free-round st initial) (i + length xs) (λ (j : ℕ) (q : Placed). P (q .map)) (λ j x q l. free-keeps P keep st initial q j x) i xs p refl h
 
   module _ (st : HintState) (ss : Stems) (new : P (newMap (st .scale))) where
     -- so it holds of what both builds adjust, if it holds of a new map
@@ -46,7 +45,7 @@ module _ (P : HintMap → Type 0) (keep : Stable P) where
     initial-holds = baselined-keeps P keep _ (locked-turns-keep st _ _ 0 (declaredIn ss) _ (boxed-holds _ _))
 
     placed-holds : (mask : HintMask) (initial : HintMap) → P (placedOf st mask initial ss)
-    placed-holds mask initial = free-turns-keep (st .scale) initial 0 (declaredIn ss) _ (locked-turns-keep st initial true 0 (declaredIn ss) _ (boxed-holds initial true))
+    placed-holds mask initial = free-turns-keep st initial 0 (declaredIn ss) _ (locked-turns-keep st initial true 0 (declaredIn ss) _ (boxed-holds initial true))
 
 -- ---- in order
 -- a turn of the first round keeps the map in order
@@ -54,14 +53,14 @@ pub locked-turn-good : (st : HintState) (initial : HintMap) (given : Bool) (p : 
 locked-turn-good = locked-keeps Good insert-good
 
 -- so does a turn of the second
-pub free-turn-good : (s : Fixed) (initial : HintMap) (p : Placed) (i : ℕ) (x : StemHint) → Good (p .map) → Good (freeTurn s initial p i x .map)
+pub free-turn-good : (st : HintState) (initial : HintMap) (p : Placed) (i : ℕ) (x : StemHint) → Good (p .map) → Good (freeTurn st initial p i x .map)
 free-turn-good = free-keeps Good insert-good
 
 -- so does a whole round
 pub locked-turns-good : (st : HintState) (initial : HintMap) (given : Bool) (i : ℕ) (xs : List StemHint) (p : Placed) → Good (p .map) → Good (lockedTurns st initial given i xs p .map)
 locked-turns-good = locked-turns-keep Good insert-good
 
-pub free-turns-good : (s : Fixed) (initial : HintMap) (i : ℕ) (xs : List StemHint) (p : Placed) → Good (p .map) → Good (freeTurns s initial i xs p .map)
+pub free-turns-good : (st : HintState) (initial : HintMap) (i : ℕ) (xs : List StemHint) (p : Placed) → Good (p .map) → Good (freeTurns st initial i xs p .map)
 free-turns-good = free-turns-keep Good insert-good
 
 -- so does the adjustment

@@ -88,13 +88,13 @@ module _ (initial : HintMap) (p : Placed) (i : ℕ) (x : StemHint) (P : Placed �
       go false e = same
 
   -- the second leaves all as it is, or puts in an active stem
-  pub free-cases : (s : Fixed) →
-      (isActive (p .rest) i ≡ true → P (record { map = insertIn (p .map) (chosen (setupOf x i s true) (setupOf x i s false)) initial true; rest = p .rest })) →
-      P (freeTurn s initial p i x)
+  pub free-cases : (st : HintState) →
+      (isActive (p .rest) i ≡ true → P (record { map = insertIn (p .map) (chosen (setupOf x i (st .scale) true) (setupOf x i (st .scale) false)) initial true; rest = p .rest })) →
+      P (freeTurn st initial p i x)
   unfolding freeTurn
-  free-cases s f = go (isActive (p .rest) i) refl
+  free-cases st f = go (isActive (p .rest) i) refl
     where
-      go : (a : Bool) → isActive (p .rest) i ≡ a → P (freeBy a s initial p i x)
+      go : (a : Bool) → isActive (p .rest) i ≡ a → P (freeBy a st initial p i x)
       go true e = f e
       go false e = same
 
@@ -123,6 +123,6 @@ module _ (P : HintMap → Type 0) (keep : Stable P) where
   locked-keeps st initial given p i x h =
       locked-cases initial p i x (λ (q : Placed). P (q .map)) h st given (λ e. keep (p .map) _ initial given (made-ready st x i) h)
 
-  pub free-keeps : (s : Fixed) (initial : HintMap) (p : Placed) (i : ℕ) (x : StemHint) → P (p .map) → P (freeTurn s initial p i x .map)
-  free-keeps s initial p i x h =
-      free-cases initial p i x (λ (q : Placed). P (q .map)) h s (λ e. keep (p .map) _ initial true (made-setup x i s) h)
+  pub free-keeps : (st : HintState) (initial : HintMap) (p : Placed) (i : ℕ) (x : StemHint) → P (p .map) → P (freeTurn st initial p i x .map)
+  free-keeps st initial p i x h =
+      free-cases initial p i x (λ (q : Placed). P (q .map)) h st (λ e. keep (p .map) _ initial true (made-setup x i (st .scale)) h)

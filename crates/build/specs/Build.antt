@@ -36,7 +36,7 @@ lockedPlaced st mask initial ss =
     lockedTurns st initial true 0 (declaredIn ss) (record { map = boxedMap st initial true; rest = mask })
 
 abbrev pub placedOf : HintState → HintMask → HintMap → Stems → HintMap
-placedOf st mask initial ss = freeTurns (st .scale) initial 0 (declaredIn ss) (lockedPlaced st mask initial ss) .map
+placedOf st mask initial ss = freeTurns st initial 0 (declaredIn ss) (lockedPlaced st mask initial ss) .map
 
 -- an edge's device height saved in its stem, which is then used
 abbrev pub savedStem : Hint → StemHint → StemHint

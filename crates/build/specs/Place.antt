@@ -3,7 +3,6 @@ use mathlib.Core.Bool.{Bool, true, false, _||_}
 use mathlib.Core.List.{List, [], _∷_}
 use Prim.Native.Nat.{ℕ, suc}
 use lib.ListN.{take}
-use Rattle.fixed.specs.declared.Fixed.{Fixed}
 use Rattle.stems.specs.declared.edge.StemHint.{StemHint}
 use Rattle.stems.specs.declared.edge.Hint.{Hint}
 use Rattle.stems.specs.Mask.{isActive, cleared}
@@ -43,20 +42,20 @@ lockedBy false st initial given p i stem = p
 unfoldable pub lockedTurn : HintState → HintMap → Bool → Placed → ℕ → StemHint → Placed
 lockedTurn st initial given p i stem = lockedBy (isActive (p .rest) i) st initial given p i stem
 
-abbrev pub freeBy : Bool → Fixed → HintMap → Placed → ℕ → StemHint → Placed
-freeBy true s initial p i stem =
-    record { map = insertIn (p .map) (chosen (setupOf stem i s true) (setupOf stem i s false)) initial true; rest = p .rest }
-freeBy false s initial p i stem = p
+abbrev pub freeBy : Bool → HintState → HintMap → Placed → ℕ → StemHint → Placed
+freeBy true st initial p i stem =
+    record { map = insertIn (p .map) (chosen (setupOf stem i (st .scale) true) (setupOf stem i (st .scale) false)) initial true; rest = p .rest }
+freeBy false st initial p i stem = p
 
 -- an active stem that is left is put in
-unfoldable pub freeTurn : Fixed → HintMap → Placed → ℕ → StemHint → Placed
-freeTurn s initial p i stem = freeBy (isActive (p .rest) i) s initial p i stem
+unfoldable pub freeTurn : HintState → HintMap → Placed → ℕ → StemHint → Placed
+freeTurn st initial p i stem = freeBy (isActive (p .rest) i) st initial p i stem
 
 -- the stems in order, the first of them number i
 unfoldable pub lockedTurns : HintState → HintMap → Bool → ℕ → List StemHint → Placed → Placed
 lockedTurns st initial given i [] p = p
 lockedTurns st initial given i (x ∷ xs) p = lockedTurns st initial given (suc i) xs (lockedTurn st initial given p i x)
 
-unfoldable pub freeTurns : Fixed → HintMap → ℕ → List StemHint → Placed → Placed
-freeTurns s initial i [] p = p
-freeTurns s initial i (x ∷ xs) p = freeTurns s initial (suc i) xs (freeTurn s initial p i x)
+unfoldable pub freeTurns : HintState → HintMap → ℕ → List StemHint → Placed → Placed
+freeTurns st initial i [] p = p
+freeTurns st initial i (x ∷ xs) p = freeTurns st initial (suc i) xs (freeTurn st initial p i x)

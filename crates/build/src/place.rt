@@ -1,5 +1,4 @@
 // Placing the edges of stems.
-use fixed::Fixed;
 use hintmap::Edges;
 use hintmap::HintMap;
 use stems::Hint;
@@ -79,9 +78,9 @@ pub(crate) fn place_locked(
 }
 
 // From `build`: the second round, over the stems that are left.
-pub(crate) fn place_free(p: Placed, scale: Fixed, stems: Stems, initial: HintMap) -> Placed
+pub(crate) fn place_free(p: Placed, state: HintState, stems: Stems, initial: HintMap) -> Placed
     requires { ⌜ (p .map .len ≤ 96) × ((initial .len ≤ 96) × (stems .count ≤ 96)) ⌝ }
-    ensures { λ r. ⌜ r ≡ freeTurns scale initial 0 (declaredIn stems) p ⌝ }
+    ensures { λ r. ⌜ r ≡ freeTurns state initial 0 (declaredIn stems) p ⌝ }
 {
     let mut map = p.map;
     let rest = p.rest;
@@ -91,8 +90,8 @@ pub(crate) fn place_free(p: Placed, scale: Fixed, stems: Stems, initial: HintMap
             continue;
         }
         let stem = stems.list[i];
-        let bottom = Hint::setup(stem, i as u8, scale, true);
-        let top = Hint::setup(stem, i as u8, scale, false);
+        let bottom = Hint::setup(stem, i as u8, state.scale, true);
+        let top = Hint::setup(stem, i as u8, state.scale, false);
         map = map.insert(Edges::choose(bottom, top), initial, true);
     }
     Placed { map, rest }

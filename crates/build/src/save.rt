@@ -69,7 +69,7 @@ pub fn build_map(state: HintState, mask: HintMask, stems: Stems, initial: HintMa
         rest: mask,
     };
     let locked = place_locked(start, state, stems, initial, true);
-    let all = place_free(locked, state.scale, stems, initial);
+    let all = place_free(locked, state, stems, initial);
     let placed = all.map;
     let map = adjust(placed).validate();
     Built {

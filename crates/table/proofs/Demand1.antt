@@ -81,7 +81,7 @@ module _ (s : List ℕ) where
     -- where a row is met its answer is given, and its words are left
     ends : (a : Answer) (w : When s out a) → scriptOf s out ≡ record { answer = a; left = Left s out a w }
     ends Ok w = by-run (w .checked) (omega arith) _ (fits-whole (length out - 4) (stepsIn s) (omega arith))
-    ends (BadScript p) (header f) = by-fault (BadScript p) refl (by-header (BadScript p) (omega arith) (first-gives (headerRows s) (BadScript p) f))
+    ends (BadScript p) (header f) = by-fault (BadScript p) refl (by-header (BadScript p) (omega arith) (first-gives Ok (headerRows s) (BadScript p) f))
     ends (BadScript p) (pairs h c f n e) = by-fault (BadScript p) refl (by-params h (BadScript p) (omega arith) (pairs-answer s c f n ∙ ap BadScript (sym e)))
     ends BadScale w = by-fault BadScale refl (by-params (w .header) BadScale (omega arith) (scale-answer s (w .scale)))
     ends (BadBlues p) w = by-fault (BadBlues p) refl (by-params (w .header) (BadBlues p) (omega arith) (blues-answer s p (w .least) (w .most) (w .scale) (w .before) (w .count)))

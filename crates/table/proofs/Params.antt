@@ -45,7 +45,7 @@ module _ (s : List ℕ) where
   -- ---- what the tests answer
   pub scale-answer : wordAt (rawAt s) 1 <ℤ pos 1 → firstOf (paramRows (rawAt s)) ≡ BadScale
   unfolding paramRows
-  scale-answer h = sym (stop {rs = paramRows s} 0 (record { rest = refl }) (omega heights))
+  scale-answer h = sym (stop {rs = paramRows (rawAt s)} 0 (record { rest = refl }) (omega heights))
 
   count-answer : (k : ℕ) → k < 4 → ScaleFine s → FirstFine k → 7 < rawAt s (12 + k) → firstOf (paramRows (rawAt s)) ≡ BadBlues (12 + k)
   count-answer k h c f m =
@@ -62,11 +62,11 @@ module _ (s : List ℕ) where
 
   pub pairs-answer : ScaleFine s → CountsFine s → (PairsFine s → ⊥) → firstOf (paramRows (rawAt s)) ≡ BadScript 3
   unfolding paramRows
-  pairs-answer c f n = sym (stop {rs = paramRows s} 5 (past-all c f) (other (rawAt s 3) (8 + 2 * pairsIn (rawAt s)) (λ e. n (omega arith))))
+  pairs-answer c f n = sym (stop {rs = paramRows (rawAt s)} 5 (past-all c f) (other (rawAt s 3) (8 + 2 * pairsIn (rawAt s)) (λ e. n (omega arith))))
 
   fine-answer : ScaleFine s → CountsFine s → PairsFine s → firstOf (paramRows (rawAt s)) ≡ Ok
   unfolding paramRows firstOr
-  fine-answer c f p = pass {rs = paramRows s} 5 (past-all c f) (same (rawAt s 3) (8 + 2 * pairsIn (rawAt s)) (omega arith)) .rest
+  fine-answer c f p = pass {rs = paramRows (rawAt s)} 5 (past-all c f) (same (rawAt s 3) (8 + 2 * pairsIn (rawAt s)) (omega arith)) .rest
 
   -- ---- they are fine, or a row of the table is met
   record Over (k : ℕ) : Type 0 where

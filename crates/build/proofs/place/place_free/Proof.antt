@@ -14,11 +14,11 @@ use Rattle.build.proofs.place.place_free.Statement.{statement}
 use Rattle.build.proofs.place.place_free.Tie as tie
 
 abbrev Inv-loop : tie.InvT-loop
-Inv-loop scale initial stems map₀ rest count i₀ map i =
-    Left (freeTurns scale initial) stems (record { map = map₀; rest = rest }) (record { map = map; rest = rest }) i
+Inv-loop state initial stems map₀ rest count i₀ map i =
+    Left (freeTurns state initial) stems (record { map = map₀; rest = rest }) (record { map = map; rest = rest }) i
 
 abbrev μ-loop : tie.MeasureT-loop
-μ-loop scale initial stems map₀ rest count i₀ map i = count - i
+μ-loop state initial stems map₀ rest count i₀ map i = count - i
 
 -- each stem that is declared has its place
 room : (s : tie.Start Inv-loop μ-loop) → s .args .t3 .count ≤ length (s .args .t3 .list)
@@ -36,9 +36,9 @@ module _ (c : tie.In-loop Inv-loop μ-loop) where
   inside = omega arith
 
   -- whatever its turn leaves, the turns after it are left
-  again : (q : Placed) → freeTurn (start .args .scale) (start .args .initial) soFar (c .before .loop .i) (getD (start .args .t3 .list) (c .before .loop .i) noStem) ≡ q →
-      Left (freeTurns (start .args .scale) (start .args .initial)) (start .args .t3) (start .args .p) q (c .before .loop .i + 1)
-  again q = left-more (free-round (start .args .scale) (start .args .initial)) (start .args .t3) _ soFar q (c .before .loop .i) noStem (room start) (omega arith) (c .before .loop .inv)
+  again : (q : Placed) → freeTurn (start .args .state) (start .args .initial) soFar (c .before .loop .i) (getD (start .args .t3 .list) (c .before .loop .i) noStem) ≡ q →
+      Left (freeTurns (start .args .state) (start .args .initial)) (start .args .t3) (start .args .p) q (c .before .loop .i + 1)
+  again q = left-more (free-round (start .args .state) (start .args .initial)) (start .args .t3) _ soFar q (c .before .loop .i) noStem (room start) (omega arith) (c .before .loop .inv)
 
 loop-holds : tie.Need-loop-holds Inv-loop μ-loop
 loop-holds c = (refl, (search needs, search needs))
@@ -100,7 +100,7 @@ returns : tie.Need-returns Inv-loop μ-loop
 returns c =
     let at = c .before in
     let s = at .before .before .before in
-    left-ends (free-round (s .args .scale) (s .args .initial)) (s .args .t3) (s .args .p) _ (at .loop .i) (room s) (search needs) (at .loop .inv)
+    left-ends (free-round (s .args .state) (s .args .initial)) (s .args .t3) (s .args .p) _ (at .loop .i) (room s) (search needs) (at .loop .inv)
 
 pub place-free-spec : {M : Type 1} → statement M
 place-free-spec =
