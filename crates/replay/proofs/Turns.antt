@@ -1,12 +1,13 @@
 -- One turn of each loop: the words that are lent, and the search for a word that differs. Assumes nothing.
 use mathlib.Core.Path.{_≡_, refl, ap}
+use mathlib.Core.Bool.{cond}
 use mathlib.Core.List.{List}
 use Prim.Native.Nat.{ℕ, zero, suc, _-_, _<_}
 use native.Mathlib.Omega.{arith}
 use lib.IntN.{ℤ}
 use lib.ListN.{length, length-set}
 use Rattle.fixed.specs.declared.Fixed.{Fixed}
-use Rattle.replay.specs.Judging.{lent, agrees, pickPlace, firstFrom}
+use Rattle.replay.specs.Judging.{lent, agrees, firstFrom}
 
 -- as many words as before
 pub lent-length : (fill : Fixed) (k : ℕ) (out : List ℤ) → length (lent fill k out) ≡ length out
@@ -15,7 +16,7 @@ lent-length fill zero out = refl
 lent-length fill (suc k) out = simp length-set (lent-length fill k out)
 
 -- a search that has not ended looks at word i
-pub looks : (out : List ℤ) (stored : List ℕ) (i n : ℕ) → i < n → firstFrom out stored i (n - i) ≡ pickPlace (agrees out stored i) (firstFrom out stored (suc i) (n - suc i)) i
+pub looks : (out : List ℤ) (stored : List ℕ) (i n : ℕ) → i < n → firstFrom out stored i (n - i) ≡ cond (agrees out stored i) (firstFrom out stored (suc i) (n - suc i)) i
 unfolding firstFrom
 looks out stored i n h =
     let e : n - i ≡ suc (n - suc i) = omega arith in

@@ -1,9 +1,9 @@
 -- How a run is judged by what the sample has stored for it.
-use mathlib.Core.Bool.{Bool, true, false}
+use mathlib.Core.Bool.{Bool, true, false, cond}
 use mathlib.Core.List.{List}
 use Prim.Native.Nat.{ℕ, zero, suc}
 use lib.Dec.{eqb, ltb}
-use lib.IntN.{ℤ, pos, negsuc}
+use lib.IntN.{ℤ, pos, negℤ}
 use lib.ListN.{length, getD, set}
 use Rattle.fixed.specs.declared.Fixed.{Fixed}
 use Rattle.fixed.specs.Fixed.{fromBits, addF, sameF}
@@ -14,10 +14,10 @@ use Rattle.replay.specs.declared.judging.Verdict.{Verdict}
 use Rattle.replay.specs.declared.judging.Verdict.the-variants.{Same, Number, Place, Word}
 
 -- ---- the words that are lent
--- word i: the fill, and 0x9E3779B1 for each word before it, cut to 32 bits
+-- word i: the fill, and 0x9E3779B1, which is −1640531535 as a word, for each word before it, cut to 32 bits
 unfoldable pub lentWord : Fixed → ℕ → Fixed
 lentWord fill zero = fill
-lentWord fill (suc i) = addF (lentWord fill i) (fromBits (negsuc 1640531534))
+lentWord fill (suc i) = addF (lentWord fill i) (fromBits (negℤ (pos 1640531535)))
 
 -- the first k words of an output, lent
 unfoldable pub lent : Fixed → ℕ → List ℤ → List ℤ
@@ -29,14 +29,10 @@ lent fill (suc k) out = set (lent fill k out) k (lentWord fill k .bits)
 abbrev pub agrees : List ℤ → List ℕ → ℕ → Bool
 agrees out stored i = sameF (fromBits (getD out i (pos 0))) (numberAt (rawAt stored) i)
 
-abbrev pub pickPlace : Bool → ℕ → ℕ → ℕ
-pickPlace true i j = i
-pickPlace false i j = j
-
 -- the first of n words from i on that is not, or where they end
 unfoldable pub firstFrom : List ℤ → List ℕ → ℕ → ℕ → ℕ
 firstFrom out stored i zero = i
-firstFrom out stored i (suc n) = pickPlace (agrees out stored i) (firstFrom out stored (suc i) n) i
+firstFrom out stored i (suc n) = cond (agrees out stored i) (firstFrom out stored (suc i) n) i
 
 unfoldable pub firstDifferent : List ℤ → List ℕ → ℕ
 firstDifferent out stored = firstFrom out stored 0 (length out)

@@ -42,8 +42,8 @@ fn is_close(marking: Marking) -> bool
     match marking {
         Marking::Bad => false,
         Marking::Stem(_, _) => false,
-        Marking::Mask { start, len } => false,
-        Marking::Counter { start, len } => false,
+        Marking::Mask { start: _, len: _ } => false,
+        Marking::Counter { start: _, len: _ } => false,
         Marking::Clear => false,
         Marking::Close => true,
     }

@@ -1,6 +1,6 @@
 -- `judging::first_different` meets its contract. The loop's invariant: the search from `i` on finds what the search from 0 on finds. Assumes nothing.
 use mathlib.Core.Path.{_≡_, ap, sym, _∙_}
-use mathlib.Core.Bool.{Bool}
+use mathlib.Core.Bool.{Bool, cond}
 use Prim.Native.Nat.{suc, _≤_, _-_}
 use native.Mathlib.Numerals.{add-one}
 use native.Mathlib.Omega.{arith}
@@ -12,7 +12,7 @@ use mir.Facts.{toZ-ofZ}
 use borrow.Author.Needs.{needs}
 use borrow.Author.Tests.{not-true, not-false}
 use Rattle.fixed.specs.Fixed.{fromBits, sameF}
-use Rattle.replay.specs.Judging.{agrees, pickPlace, firstFrom, firstDifferent}
+use Rattle.replay.specs.Judging.{agrees, firstFrom, firstDifferent}
 use Rattle.replay.proofs.Turns.{looks, ends}
 use Rattle.replay.proofs.judging.first_different.Statement.{statement}
 use Rattle.replay.proofs.judging.first_different.Tie as tie
@@ -24,7 +24,7 @@ abbrev μ-loop : tie.MeasureT-loop
 μ-loop out stored i₀ i-end i = i-end - i
 
 -- what `same` answers of word i decides where the search ends
-looked : (c : tie.After-same Inv-loop μ-loop) → pickPlace (c .same .result) (firstFrom (c .before .before .before .before .before .before .args .out .now) (c .before .before .before .before .before .before .args .stored .now) (suc (c .before .before .before .before .loop .i)) (length (c .before .before .before .before .before .before .args .out .now) - suc (c .before .before .before .before .loop .i))) (c .before .before .before .before .loop .i) ≡ firstDifferent (c .before .before .before .before .before .before .args .out .now) (c .before .before .before .before .before .before .args .stored .now)
+looked : (c : tie.After-same Inv-loop μ-loop) → cond (c .same .result) (firstFrom (c .before .before .before .before .before .before .args .out .now) (c .before .before .before .before .before .before .args .stored .now) (suc (c .before .before .before .before .loop .i)) (length (c .before .before .before .before .before .before .args .out .now) - suc (c .before .before .before .before .loop .i))) (c .before .before .before .before .loop .i) ≡ firstDifferent (c .before .before .before .before .before .before .args .out .now) (c .before .before .before .before .before .before .args .stored .now)
 looked c =
     let at = c .before .before .before .before in
     let out = at .before .before .args .out .now in
@@ -33,7 +33,7 @@ looked c =
     let f : SFits w32 (getD out i (pos 0)) = search needs in
     let told : c .same .result ≡ agrees out stored i =
     c .same .ensures ∙ ap (λ (z : ℤ). sameF (fromBits z) (c .before .number .result)) (toZ-ofZ f) ∙ ap (sameF (fromBits (getD out i (pos 0)))) (c .before .number .ensures) in
-    ap (λ (b : Bool). pickPlace b (firstFrom out stored (suc i) (length out - suc i)) i) told ∙ sym (looks out stored i (length out) (omega arith)) ∙ at .loop .inv .0
+    ap (λ (b : Bool). cond b (firstFrom out stored (suc i) (length out - suc i)) i) told ∙ sym (looks out stored i (length out) (omega arith)) ∙ at .loop .inv .0
 
 loop-holds : tie.Need-loop-holds Inv-loop μ-loop
 unfolding firstDifferent

@@ -4,7 +4,7 @@ use mathlib.Core.List.{List}
 use Prim.Native.Nat.{ℕ, _≤_, _-_}
 use native.Mathlib.Numerals.{add-one}
 use native.Mathlib.Omega.{arith}
-use lib.IntN.{ℤ, negsuc}
+use lib.IntN.{ℤ, pos, negℤ}
 use lib.ListN.{length, set}
 use mir.Syntax.{w32}
 use mir.Val.{SFits}
@@ -54,7 +54,7 @@ loop-again c =
     let a = c .before .before .before .before .args in
     let f : SFits w32 (l .word .bits) = search needs in (
       rw (toZ-ofZ f, add-one) (ap (λ (o : List ℤ). set o (l .i) (l .word .bits)) (l .inv .0) ∙ ap (λ (w : Fixed). set (lent (a .fill) (l .i) (a .out .now)) (l .i) (w .bits)) (l .inv .1 .0)),
-      (rw add-one (c .add .ensures ∙ ap (λ (w : Fixed). addF w (fromBits (negsuc 1640531534))) (l .inv .1 .0)), search needs),
+      (rw add-one (c .add .ensures ∙ ap (λ (w : Fixed). addF w (fromBits (negℤ (pos 1640531535)))) (l .inv .1 .0)), search needs),
     )
 
 same-length : tie.Need-same-length Inv-loop μ-loop
