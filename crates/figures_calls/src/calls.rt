@@ -34,11 +34,18 @@ pub fn drawn(
         return line_to(state, drawing, point(row, at), out);
     }
     if kind == 7 {
-        let first = point(row, at);
-        let second = point(row, at + 2);
-        return curve_to(state, drawing, first, second, point(row, at + 4), out);
+        return curved(state, drawing, row, at, out);
     }
     finish(state, drawing, out)
+}
+
+fn curved(state: HintState, drawing: Drawing, row: &[i32], at: usize, out: &mut [i32]) -> After
+    requires { ⌜ Kept state (drawing .hints) × (at ≤ 1000) ⌝ }
+    ensures { λ r. ⌜ Kept state (r .drawing .hints) ⌝ }
+{
+    let first = point(row, at);
+    let second = point(row, at + 2);
+    curve_to(state, drawing, first, second, point(row, at + 4), out)
 }
 
 // A call that writes none: 1 stem, 2 hint mask, 3 counter mask, 4 clear, 8 close. Operands start at `at`.

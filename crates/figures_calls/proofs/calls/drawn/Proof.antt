@@ -28,29 +28,14 @@ same-length-2 c = search needs
 returns-2 : tie.Need-returns-2
 returns-2 c = kept-called _ _ (search needs) _ _ _ _ (c .before .line-to .ensures)
 
-point-requires-3 : tie.Need-point-requires-3
-point-requires-3 c κs = search needs
-
-add-point : tie.Need-add-point
-add-point c = search needs
-
-point-requires-4 : tie.Need-point-requires-4
-point-requires-4 c κs = search needs
-
-add-point-2 : tie.Need-add-point-2
-add-point-2 c = search needs
-
-point-requires-5 : tie.Need-point-requires-5
-point-requires-5 c κs = search needs
-
-curve-to-requires : tie.Need-curve-to-requires
-curve-to-requires c κs = search needs
+curved-requires : tie.Need-curved-requires
+curved-requires c κs = search needs
 
 same-length-3 : tie.Need-same-length-3
 same-length-3 c = search needs
 
 returns-3 : tie.Need-returns-3
-returns-3 c = kept-called _ _ (search needs) _ _ _ _ (c .before .curve-to .ensures)
+returns-3 c = c .before .curved .ensures
 
 finish-requires : tie.Need-finish-requires
 finish-requires c κs = search needs
@@ -73,12 +58,7 @@ drawn-spec =
     line-to-requires
     same-length-2
     returns-2
-    point-requires-3
-    add-point
-    point-requires-4
-    add-point-2
-    point-requires-5
-    curve-to-requires
+    curved-requires
     same-length-3
     returns-3
     finish-requires
