@@ -7,31 +7,15 @@ mod openings;
 mod tables;
 
 fn main() {
-    paths();
-    hints();
-    refusals();
-    ends();
-}
-
-fn paths() {
     tables::run(b"worked by hand", &calls_rows::WORKED);
     tables::run(b"openings", &calls_rows::OPENINGS);
     tables::run(b"paths of three calls", &calls_rows::PATHS);
-}
-
-fn hints() {
     tables::run(b"rooms", &calls_rows::ROOMS);
     tables::run(b"stems", &calls_rows::STEMS);
     tables::run(b"masks", &calls_rows::MASKS);
-}
-
-fn refusals() {
     tables::run(b"counter masks", &calls_rows::COUNTERS);
     tables::run(b"clears", &calls_rows::CLEARS);
     tables::run(b"refusals", &calls_rows::REFUSALS);
-}
-
-fn ends() {
     tables::run(b"all calls", &calls_rows::MIXED);
     tables::run(b"ends of the range", &calls_rows::EXTREMES);
 }
