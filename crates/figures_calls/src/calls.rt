@@ -39,6 +39,7 @@ pub fn drawn(
     finish(state, drawing, out)
 }
 
+// A curve's three points stand one behind the other.
 fn curved(state: HintState, drawing: Drawing, row: &[i32], at: usize, out: &mut [i32]) -> After
     requires { ⌜ Kept state (drawing .hints) × (at ≤ 1000) ⌝ }
     ensures { λ r. ⌜ Kept state (r .drawing .hints) ⌝ }

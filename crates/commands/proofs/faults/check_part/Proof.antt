@@ -2,15 +2,15 @@
 -- The measure is the words that are left. Assumes nothing.
 use mathlib.Core.Path.{_≡_, sym, ap, _∙_}
 use mathlib.Core.List.{List}
-use Prim.Native.Nat.{_-_}
+use Prim.Native.Nat.{_+_, _-_}
 use native.Mathlib.Omega.{arith}
 use borrow.Author.Needs.{needs}
 use Rattle.words.specs.Words.{rawAt}
 use Rattle.words.specs.Rows.{firstOr}
 use Rattle.words.specs.Answers.{firstOf}
 use Rattle.commands.specs.declared.reading.Read.{Read}
-use Rattle.commands.specs.Commands.{nextAt, Placed, commandsFrom, commandsOf}
-use Rattle.commands.specs.Faults.{commandRows}
+use Rattle.commands.specs.Commands.{readAt, nextAt, Placed, commandsFrom, commandsOf}
+use Rattle.commands.specs.Faults.{faultRows, commandRows}
 use Rattle.commands.proofs.Laws.{next-is, from-start, rows-none, fault-here, fault-behind}
 use Rattle.commands.proofs.faults.check_part.Statement.{statement}
 use Rattle.commands.proofs.faults.check_part.Tie as tie
@@ -24,6 +24,13 @@ abbrev μ-loop : tie.MeasureT-loop
 -- the word behind it
 moved : (c : tie.After-read-command Inv-loop μ-loop) → c .read-command .result .next ≡ nextAt (rawAt (c .before .before .before .before .args .part .now)) (c .before .before .loop .at)
 moved c = ap (λ (r : Read). r .next) (c .read-command .ensures) ∙ next-is _ _ _
+
+-- what was found is the fault of the command that was read
+found : (c : tie.After-fault-in Inv-loop μ-loop) →
+    let l = c .before .before .before in
+    let a = l .before .before .args in
+    c .fault-in .result ≡ firstOf (faultRows (a .bytes) (a .first + l .loop .at) (readAt (rawAt (a .part .now)) (a .n) (l .loop .at) .command))
+found c = rw (ap (λ (r : Read). r .command) (c .before .read-command .ensures)) at (c .fault-in .ensures)
 
 loop-holds : tie.Need-loop-holds Inv-loop μ-loop
 loop-holds c =
@@ -47,7 +54,7 @@ returns c =
     let f = c .before .before in
     let l = f .before .before .before in
     let a = l .before .before .args in
-    fault-here (a .first) (rawAt (a .part .now)) (a .n) (a .bytes) (l .loop .at) (omega arith) (f .fault-in .result) (rw (ap (λ (r : Read). r .command) (f .before .read-command .ensures)) at (f .fault-in .ensures)) (omega (arith, c .before .code .ensures, c .if1 .taken)) ∙
+    fault-here (a .first) (rawAt (a .part .now)) (a .n) (a .bytes) (l .loop .at) (omega arith) (f .fault-in .result) (found f) (omega (arith, c .before .code .ensures, c .if1 .taken)) ∙
     sym (l .loop .inv)
 
 loop-less : tie.Need-loop-less Inv-loop μ-loop
@@ -60,7 +67,7 @@ loop-again c =
     let a = l .before .before .args in
     rw (moved (f .before))
     (l .loop .inv ∙
-    fault-behind (a .first) (rawAt (a .part .now)) (a .n) (a .bytes) (l .loop .at) (omega arith) (f .fault-in .result) (rw (ap (λ (r : Read). r .command) (f .before .read-command .ensures)) at (f .fault-in .ensures)) (omega (arith, c .before .code .ensures, c .if1 .left)))
+    fault-behind (a .first) (rawAt (a .part .now)) (a .n) (a .bytes) (l .loop .at) (omega arith) (f .fault-in .result) (found f) (omega (arith, c .before .code .ensures, c .if1 .left)))
 
 returns-2 : tie.Need-returns-2 Inv-loop μ-loop
 unfolding firstOr
