@@ -1,19 +1,16 @@
 """Makes the rows that `figures` runs against 16.16 numbers:
 
-    python3 vectors.py > src/numbers.rt
+    (python3 vectors.py; python3 vectors_stems.py; python3 vectors_zones.py) > stdin
 
-The expected bits come from exact fractions, by the rules of document 01, "Numbers in 16.16".
+A row has three operands, with 0 for one that is not taken, and the expected bits. The expected bits come from exact fractions, by the rules of document 01, "Numbers in 16.16".
 """
 
 import random
+import struct
+import sys
 from fractions import Fraction
 from itertools import product as pairs
 
-HEADER = """\
-// Rows for the operations on 16.16 numbers. Four numbers are a row: three operands, with 0 for one
-// that is not taken, and the expected bits. `python3 vectors.py > src/numbers.rt` makes this file.
-// It works the expected bits out in exact fractions; no other code of the project takes part.
-"""
 LOW, HIGH = -(2**31), 2**31 - 1
 EDGES = [LOW, -65536, -1, 0, 1, 65536, HIGH]
 SIZES = [8, 17, 24, 31]
@@ -86,50 +83,47 @@ def with_divisors():
     return rows
 
 
-def print_rows(name, rows, of="i32"):
-    """Rows as one flat constant, a number a line."""
-    numbers = [number for row in rows for number in row]
-    print(f"\n// Rows: {len(rows)}.\npub const {name}: [{of}; {len(numbers)}] = [")
-    print(*(f"    {number},\n" for number in numbers), sep="", end="")
-    print("];")
+def write_rows(rows):
+    """A table: the count of the rows, and the rows, each with its count in front. All are words, the least byte first."""
+    words = [len(rows), *(number for row in rows for number in [len(row), *row])]
+    sys.stdout.buffer.write(struct.pack(f"<{len(words)}i", *words))
 
 
-def print_table(name, operands, expected):
-    print_rows(name, [(*row, 0, 0)[:3] + (expected(*row),) for row in operands])
+def write_table(operands, expected):
+    write_rows([(*row, 0, 0)[:3] + (expected(*row),) for row in operands])
 
 
 def main():
     random.seed(1616)
-    print(HEADER, end="")
     edges = list(pairs(EDGES, repeat=2))
     products = edges + near_halves([32767, 32768, 32769]) + drawn_pairs(3)
     quotients = edges + near_halves([131071, 131072, 131073]) + drawn_pairs(3)
-    print_table("PRODUCTS", products, product)
-    print_table("QUOTIENTS", quotients, quotient)
-    print_table("PRODUCT_QUOTIENTS", with_divisors(), product_quotient)
+    write_table(products, product)
+    write_table(quotients, quotient)
+    write_table(with_divisors(), product_quotient)
 
     couples = list(pairs([LOW, -1, 0, HIGH], repeat=2)) + [(drawn(31), drawn(31)) for _ in range(4)]
-    print_table("SUMS", couples, lambda a, b: wrapped(a + b))
-    print_table("DIFFERENCES", couples, lambda a, b: wrapped(a - b))
-    print_table("MIDPOINTS", couples, lambda a, b: wrapped(a + half(wrapped(b - a))))
+    write_table(couples, lambda a, b: wrapped(a + b))
+    write_table(couples, lambda a, b: wrapped(a - b))
+    write_table(couples, lambda a, b: wrapped(a + half(wrapped(b - a))))
 
     singles = [(a,) for a in SINGLES]
-    print_table("NEGATIONS", singles, lambda a: wrapped(-a))
-    print_table("ABSOLUTE_VALUES", singles, lambda a: wrapped(abs(a)))
-    print_table("DOUBLINGS", singles, lambda a: wrapped(2 * a))
-    print_table("ROUNDS", singles, rounded)
-    print_table("FRACTIONS", singles, lambda a: a & 0xFFFF)
-    print_table("HALVES", singles, half)
-    print_table("OUTPUTS", singles, lambda a: a & ~0x3FF)
+    write_table(singles, lambda a: wrapped(-a))
+    write_table(singles, lambda a: wrapped(abs(a)))
+    write_table(singles, lambda a: wrapped(2 * a))
+    write_table(singles, rounded)
+    write_table(singles, lambda a: a & 0xFFFF)
+    write_table(singles, half)
+    write_table(singles, lambda a: a & ~0x3FF)
 
-    print_table("LESS", ORDERED, lambda a, b: int(a < b))
-    print_table("AT_MOST", ORDERED, lambda a, b: int(a <= b))
-    print_table("SAME", ORDERED, lambda a, b: int(a == b))
-    print_table("MINIMA", ORDERED, min)
-    print_table("MAXIMA", ORDERED, max)
+    write_table(ORDERED, lambda a, b: int(a < b))
+    write_table(ORDERED, lambda a, b: int(a <= b))
+    write_table(ORDERED, lambda a, b: int(a == b))
+    write_table(ORDERED, min)
+    write_table(ORDERED, max)
 
     constants = [0, 65536, 0x8000, 1, HIGH]
-    print_table("CONSTANTS", [(number,) for number in range(len(constants))], lambda number: constants[number])
+    write_table([(number,) for number in range(len(constants))], lambda number: constants[number])
 
 
 if __name__ == "__main__":

@@ -1,6 +1,6 @@
 """Makes the rows that `figures` runs against masks and stems' edges:
 
-    python3 vectors_stems.py > src/stems_rows.rt
+    (python3 vectors.py; python3 vectors_stems.py; python3 vectors_zones.py) > stdin
 
 The expected values come from model.py, by the rules of document 01, "Stems and masks".
 """
@@ -8,17 +8,7 @@ The expected values come from model.py, by the rules of document 01, "Stems and 
 import random
 
 from model import ONE, Stem, cleared, edges, mask, mask_bytes
-from vectors import HIGH, LOW, print_rows, wrapped
-
-HEADER = """\
-// Rows for masks and for stems' edges. A row starts with the count of its numbers.
-// `python3 vectors_stems.py > src/stems_rows.rt` makes this file. It takes the expected values from
-// model.py, which is written from document 01; no other code of the project takes part.
-"""
-
-
-def counted(row):
-    return [len(row) + 1, *row]
+from vectors import HIGH, LOW, wrapped, write_rows
 
 
 def drawn(count):
@@ -28,12 +18,12 @@ def drawn(count):
 def mask_row(given, bit):
     """A count and so many bytes, the mask's 12; a bit, 1 if it is active, the 12 once it is cleared."""
     bits = mask(given)
-    return counted([len(given), *given, *mask_bytes(bits), bit, bits[bit], *mask_bytes(cleared(bits, bit))])
+    return [len(given), *given, *mask_bytes(bits), bit, bits[bit], *mask_bytes(cleared(bits, bit))]
 
 
 def same_row(one, other):
     """Two counts, each with its bytes, and 1 if the masks are the same."""
-    return counted([len(one), *one, len(other), *other, int(mask(one) == mask(other))])
+    return [len(one), *one, len(other), *other, int(mask(one) == mask(other))]
 
 
 def edges_row(stem, scale, index):
@@ -41,7 +31,7 @@ def edges_row(stem, scale, index):
     row = [stem.min, stem.max, int(stem.is_used), stem.ds_min, stem.ds_max, index, scale]
     for edge in edges(stem, scale):
         row += [edge.kind, int(edge.locked), edge.height, edge.device]
-    return counted(row)
+    return row
 
 
 def masks():
@@ -86,12 +76,11 @@ def stems():
 
 def main():
     random.seed(9612)
-    print(HEADER, end="")
-    print_rows("MASKS", [mask_row(*given) for given in masks()])
-    print_rows("SAME_MASKS", [same_row(*given) for given in masks_to_compare()])
+    write_rows([mask_row(*given) for given in masks()])
+    write_rows([same_row(*given) for given in masks_to_compare()])
     scales = [2048, 2048, 70000, HIGH]
     rows = [edges_row(stem, scales[number % 4], 95 - number) for number, stem in enumerate(stems())]
-    print_rows("EDGES", rows)
+    write_rows(rows)
 
 
 if __name__ == "__main__":

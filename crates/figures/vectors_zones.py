@@ -1,6 +1,6 @@
 """Makes the rows that `figures` runs against zones and capture:
 
-    python3 vectors_zones.py > src/zones_rows.rt
+    (python3 vectors.py; python3 vectors_stems.py; python3 vectors_zones.py) > stdin
 
 The expected values come from model.py, by the rules of document 01, "Zones".
 """
@@ -8,14 +8,8 @@ The expected values come from model.py, by the rules of document 01, "Zones".
 from dataclasses import replace
 
 from model import ONE, Params, Stem, capture, edges, state
-from vectors import HIGH, LOW, print_rows, wrapped
-from vectors_stems import counted
+from vectors import HIGH, LOW, wrapped, write_rows
 
-HEADER = """\
-// Rows for zones and for capture. A row starts with the count of its numbers.
-// `python3 vectors_zones.py > src/zones_rows.rt` makes this file. It takes the expected values from
-// model.py, which is written from document 01; no other code of the project takes part.
-"""
 EM_BOX = [(-122, -121), (881, 890)]
 
 
@@ -44,7 +38,7 @@ def state_row(params, scale):
     row = [int(made.em_box), int(made.suppress), made.boost, made.blue_scale, len(made.zones)]
     for zone in made.zones:
         row += [int(zone.is_bottom), zone.bottom, zone.top, zone.flat, zone.device_flat]
-    return counted(given(params, scale) + row)
+    return given(params, scale) + row
 
 
 def captures_row(params, scale, stems):
@@ -54,7 +48,7 @@ def captures_row(params, scale, stems):
     for low, high in stems:
         captured, bottom, top = capture(params, made, *edges(Stem(low, high), scale))
         row += [low, high, int(captured), int(bottom.locked), bottom.device, int(top.locked), top.device]
-    return counted(row)
+    return row
 
 
 def lists():
@@ -153,11 +147,10 @@ def captures_that_wrap():
 
 
 def main():
-    print(HEADER, end="")
-    print_rows("LISTS", [state_row(*case) for case in lists()])
-    print_rows("FAMILIES", [state_row(*case) for case in families()])
-    print_rows("SCALES", [state_row(*case) for case in scales()])
-    print_rows("CAPTURES", [captures_row(*case) for case in captures()])
+    write_rows([state_row(*case) for case in lists()])
+    write_rows([state_row(*case) for case in families()])
+    write_rows([state_row(*case) for case in scales()])
+    write_rows([captures_row(*case) for case in captures()])
 
 
 if __name__ == "__main__":

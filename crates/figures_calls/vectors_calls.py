@@ -1,6 +1,6 @@
 """Makes the rows that `figures_calls` runs against sequences of calls on a drawing:
 
-    python3 vectors_calls.py > src/calls_rows.rt
+    python3 vectors_calls.py > stdin
 
 The expected values of the first table are worked by hand; the others come from model_calls.py, by the
 rules of document 01.
@@ -17,16 +17,9 @@ from model_calls import (
     NO_ROOM, OK, ONE, STEM, build, clear, hinted, mask, opened
 )
 from model import Stem
-from vectors import HIGH, LOW, print_rows
-from vectors_stems import counted
+from vectors import HIGH, LOW, write_rows
 from vectors_zones import EM_BOX, font, given
 
-HEADER = """\
-// Rows for sequences of calls on a drawing. A row starts with the count of its numbers.
-// `python3 vectors_calls.py > src/calls_rows.rt` makes this file. The answers of WORKED are worked by hand
-// from document 01; it takes those of the other tables from model_calls.py, which is written from that
-// document. No other code of the project takes part.
-"""
 PLAIN = font()
 LETTER = font([(-10, 0), (480, 492)])
 # More words than any call writes.
@@ -87,7 +80,7 @@ def call_numbers(call, answer):
 
 def row_of(params, scale, number, calls, answers):
     steps = [number for call, answer in zip(calls, answers) for number in call_numbers(call, answer)]
-    return counted([*given(params, scale), number, *steps])
+    return [*given(params, scale), number, *steps]
 
 
 def answers_of(params, scale, calls):
@@ -488,14 +481,9 @@ def refusals():
 
 def main():
     random.seed(1013)
-    print(HEADER, end="")
-    print_rows("WORKED", [worked_row(*case) for case in worked()])
-    tables = {
-        "OPENINGS": openings, "PATHS": paths, "ROOMS": rooms, "STEMS": stems, "MASKS": masks, "COUNTERS": counters,
-        "CLEARS": clears, "REFUSALS": refusals, "MIXED": mixed, "EXTREMES": extremes
-    }
-    for name, cases in tables.items():
-        print_rows(name, [row(*case) for case in cases()])
+    write_rows([worked_row(*case) for case in worked()])
+    for cases in [openings, paths, rooms, stems, masks, counters, clears, refusals, mixed, extremes]:
+        write_rows([row(*case) for case in cases()])
 
 
 if __name__ == "__main__":

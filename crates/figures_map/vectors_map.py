@@ -1,6 +1,6 @@
 """Makes the rows that `figures_map` runs against maps and their building:
 
-    python3 vectors_map.py > src/map_rows.rt
+    python3 vectors_map.py > stdin
 
 The expected values come from model_map.py, by the rules of document 01, "The map".
 """
@@ -11,15 +11,9 @@ from dataclasses import replace
 # This brings the folder of `figures` into the path too.
 from model_map import HALF, ONE, Map, built_map, initial_map, insert, mapped, stem_edges
 from model import Stem, mask, state
-from vectors import HIGH, LOW, print_rows
-from vectors_stems import counted
+from vectors import HIGH, LOW, write_rows
 from vectors_zones import EM_BOX, font, ghost_bottom, ghost_top, given, in_bits
 
-HEADER = """\
-// Rows for maps and for their building. A row starts with the count of its numbers.
-// `python3 vectors_map.py > src/map_rows.rt` makes this file. It takes the expected values from
-// model_map.py, which is written from document 01; no other code of the project takes part.
-"""
 LETTER = [(-10, 0), (480, 492)]
 
 
@@ -76,7 +70,7 @@ def map_row(scale, given, first, then, reasons):
         said.append(insert(map, *stem_edges(stem, number, scale), initial if given else None))
     assert [why for why in said if why] == reasons, said
     row = [scale, int(given), *stem_numbers(first), *stem_numbers(then)]
-    return counted(row + edge_numbers(map) + height_numbers(map, around(map)))
+    return row + edge_numbers(map) + height_numbers(map, around(map))
 
 
 def maps():
@@ -124,7 +118,7 @@ def build_row(params, scale, stems, first=(255, 255), second=(0, 0), heights=())
     row += [*second, *edge_numbers(other)]
     for stem in after:
         row += [int(stem.is_used), stem.ds_min, stem.ds_max]
-    return counted(row + height_numbers(map, list(heights)))
+    return row + height_numbers(map, list(heights))
 
 
 def units(*stems):
@@ -203,14 +197,13 @@ def touches():
 
 def main():
     random.seed(96)
-    print(HEADER, end="")
-    print_rows("MAPS", [map_row(*case) for case in maps()])
-    print_rows("STARRED", [build_row(*case) for case in starred()])
-    print_rows("BUILDS", [build_row(*case) for case in stems_and_zones()])
-    print_rows("EM_BOXES", [build_row(*case) for case in em_boxes()])
-    print_rows("BASELINES", [build_row(*case) for case in baselines()])
-    print_rows("CROWDS", [build_row(*case) for case in crowds()])
-    print_rows("TOUCHES", [build_row(*case) for case in touches()])
+    write_rows([map_row(*case) for case in maps()])
+    write_rows([build_row(*case) for case in starred()])
+    write_rows([build_row(*case) for case in stems_and_zones()])
+    write_rows([build_row(*case) for case in em_boxes()])
+    write_rows([build_row(*case) for case in baselines()])
+    write_rows([build_row(*case) for case in crowds()])
+    write_rows([build_row(*case) for case in touches()])
 
 
 if __name__ == "__main__":

@@ -1,7 +1,6 @@
-// Captures of stems' edges by zones, run on the rows of `zones_rows`.
+// Captures of stems' edges by zones. vectors_zones.py takes the expected values from model.py, which is written from 01.
 use crate::tables;
 use crate::tables::Rows;
-use crate::zones_rows;
 use fixed::Fixed;
 use stems::Hint;
 use stems::StemHint;
@@ -9,7 +8,7 @@ use zones::HintState;
 ghost use Prim.Native.Nat.{_≤_};
 
 pub fn run() {
-    tables::run(b"captures", Rows::Captures, &zones_rows::CAPTURES);
+    tables::run(b"captures", Rows::Captures);
 }
 
 // A row: a scale and parameters, a count of stems, and to the end seven numbers for each.

@@ -1,5 +1,4 @@
-// Stems' edges, run on the rows of `stems_rows`.
-use crate::stems_rows;
+// Stems' edges. vectors_stems.py takes the expected values from model.py, which is written from 01.
 use crate::tables;
 use crate::tables::Rows;
 use stems::Hint;
@@ -7,7 +6,7 @@ use stems::StemHint;
 ghost use Prim.Native.Nat.{_≤_};
 
 pub fn run() {
-    tables::run(b"edges", Rows::Edges, &stems_rows::EDGES);
+    tables::run(b"edges", Rows::Edges);
 }
 
 // A row: a stem, its number and a scale; of the bottom edge and of the top edge the kind, 1 if it is

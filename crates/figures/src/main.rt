@@ -1,14 +1,13 @@
 // Runs the figures that are not theorems, and says of each table how many rows were run and how many
-// differ.
+// differ. Its input is made by
+//
+//     (python3 vectors.py; python3 vectors_stems.py; python3 vectors_zones.py) > stdin
 mod captures;
 mod edges;
 mod masks;
-mod numbers;
 mod operations;
 mod states;
-mod stems_rows;
 mod tables;
-mod zones_rows;
 
 fn main() {
     operations::run();

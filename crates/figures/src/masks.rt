@@ -1,13 +1,12 @@
-// Masks, run on the rows of `stems_rows`.
-use crate::stems_rows;
+// Masks. vectors_stems.py takes the expected values from model.py, which is written from 01.
 use crate::tables;
 use crate::tables::Rows;
 use stems::HintMask;
 ghost use Prim.Native.Nat.{_≤_};
 
 pub fn run() {
-    tables::run(b"masks", Rows::Masks, &stems_rows::MASKS);
-    tables::run(b"same masks", Rows::SameMasks, &stems_rows::SAME_MASKS);
+    tables::run(b"masks", Rows::Masks);
+    tables::run(b"same masks", Rows::SameMasks);
 }
 
 // A row: a count and so many bytes, the mask's 12 bytes; a bit, 1 if it is active, and the 12 bytes

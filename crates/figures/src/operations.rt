@@ -1,8 +1,8 @@
-// The operations of 16.16 numbers, run on the rows of `numbers`.
-use crate::numbers;
+// The operations of 16.16 numbers. vectors.py works the expected bits out in exact fractions, and no other code of the
+// project takes part.
+use crate::tables;
+use crate::tables::Rows;
 use fixed::Fixed;
-ghost use Prim.Native.Nat.{_+_, _<_};
-ghost use lib.ListN.{length};
 
 // What a table runs: a method of `Fixed`, or the constants.
 pub enum Operation {
@@ -36,61 +36,46 @@ pub fn run() {
 }
 
 fn products_and_quotients() {
-    table(b"products", Operation::Mul, &numbers::PRODUCTS);
-    table(b"quotients", Operation::Div, &numbers::QUOTIENTS);
-    table(b"a*b/c", Operation::MulDiv, &numbers::PRODUCT_QUOTIENTS);
+    table(b"products", Operation::Mul);
+    table(b"quotients", Operation::Div);
+    table(b"a*b/c", Operation::MulDiv);
 }
 
 fn sums_and_differences() {
-    table(b"sums", Operation::Add, &numbers::SUMS);
-    table(b"differences", Operation::Sub, &numbers::DIFFERENCES);
-    table(b"midpoints", Operation::Midpoint, &numbers::MIDPOINTS);
+    table(b"sums", Operation::Add);
+    table(b"differences", Operation::Sub);
+    table(b"midpoints", Operation::Midpoint);
 }
 
 fn operations_on_one() {
-    table(b"negations", Operation::Neg, &numbers::NEGATIONS);
-    table(
-        b"absolute values",
-        Operation::Abs,
-        &numbers::ABSOLUTE_VALUES,
-    );
-    table(b"doublings", Operation::Twice, &numbers::DOUBLINGS);
-    table(b"rounds", Operation::Round, &numbers::ROUNDS);
-    table(b"fractions", Operation::Fract, &numbers::FRACTIONS);
-    table(b"halves", Operation::Half, &numbers::HALVES);
-    table(b"outputs", Operation::Trunc, &numbers::OUTPUTS);
+    table(b"negations", Operation::Neg);
+    table(b"absolute values", Operation::Abs);
+    table(b"doublings", Operation::Twice);
+    table(b"rounds", Operation::Round);
+    table(b"fractions", Operation::Fract);
+    table(b"halves", Operation::Half);
+    table(b"outputs", Operation::Trunc);
 }
 
 fn order_and_constants() {
-    table(b"less", Operation::Less, &numbers::LESS);
-    table(b"at most", Operation::AtMost, &numbers::AT_MOST);
-    table(b"same", Operation::Same, &numbers::SAME);
-    table(b"minima", Operation::Min, &numbers::MINIMA);
-    table(b"maxima", Operation::Max, &numbers::MAXIMA);
-    table(b"constants", Operation::Constant, &numbers::CONSTANTS);
+    table(b"less", Operation::Less);
+    table(b"at most", Operation::AtMost);
+    table(b"same", Operation::Same);
+    table(b"minima", Operation::Min);
+    table(b"maxima", Operation::Max);
+    table(b"constants", Operation::Constant);
 }
 
-// Runs a table of rows of four: three operands and the expected bits.
-fn table(name: &[u8], operation: Operation, rows: &[i32]) {
-    let count = rows.len() / 4;
-    let mut differ = 0;
-    for i in 0..count {
-        if !agrees(operation, rows, 4 * i) {
-            rows::row_differs(name, i);
-            differ += 1;
-        }
-    }
-    rows::counts(name, count, differ);
+fn table(name: &[u8], operation: Operation) {
+    tables::run(name, Rows::Numbers(operation));
 }
 
-// The row that starts at `at` agrees with the operation.
-fn agrees(operation: Operation, rows: &[i32], at: usize) -> bool
-    requires { ⌜ at + 3 < length (now rows) ⌝ }
-{
-    let a = Fixed::from_bits(rows[at]);
-    let b = Fixed::from_bits(rows[at + 1]);
-    let c = Fixed::from_bits(rows[at + 2]);
-    apply(operation, a, b, c).bits == rows[at + 3]
+// A row: three operands, with 0 for one that is not taken, and the expected bits.
+pub fn answer_agrees(operation: Operation, row: &[i32]) -> bool {
+    let a = rows::fixed(row, 1);
+    let b = rows::fixed(row, 2);
+    let c = rows::fixed(row, 3);
+    apply(operation, a, b, c).bits == rows::number(row, 4)
 }
 
 // The operation's answer; operands that it does not take are passed over.

@@ -1,15 +1,14 @@
-// Zones, run on the rows of `zones_rows`.
+// Zones. vectors_zones.py takes the expected values from model.py, which is written from 01.
 use crate::tables;
 use crate::tables::Rows;
-use crate::zones_rows;
 use zones::BlueZone;
 use zones::HintState;
 ghost use Prim.Native.Nat.{_≤_};
 
 pub fn run() {
-    tables::run(b"zone lists", Rows::States, &zones_rows::LISTS);
-    tables::run(b"zones by family", Rows::States, &zones_rows::FAMILIES);
-    tables::run(b"zones by scale", Rows::States, &zones_rows::SCALES);
+    tables::run(b"zone lists", Rows::States);
+    tables::run(b"zones by family", Rows::States);
+    tables::run(b"zones by scale", Rows::States);
 }
 
 // A row: a scale and parameters; 1 for em-box hints, 1 for suppression, boost, blue scale, and the

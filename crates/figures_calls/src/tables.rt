@@ -1,19 +1,25 @@
 // Tables of rows.
 use crate::cases;
 
-// Runs a table.
-pub fn run(name: &[u8], table: &[i32]) {
-    let mut at = 0;
-    let mut run = 0;
+// Runs a table, the next of the input.
+pub fn run(name: &[u8]) {
+    let count = rows::next_count();
     let mut differ = 0;
-    while at < table.len() {
-        let end = rows::end_of_row(table, at);
-        if !cases::row_agrees(&table[at..end]) {
-            rows::row_differs(name, run);
+    for i in 0..count {
+        if !next_agrees() {
+            rows::row_differs(name, i);
             differ += 1;
         }
-        run += 1;
-        at = end;
     }
-    rows::counts(name, run, differ);
+    rows::counts(name, count, differ);
+}
+
+// The input's next row is whole and agrees.
+fn next_agrees() -> bool {
+    let mut row = [0i32; 512];
+    let count = rows::next_row(&mut row);
+    if count == 0 {
+        return false;
+    }
+    cases::row_agrees(&row[0..count])
 }

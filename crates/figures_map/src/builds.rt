@@ -1,6 +1,5 @@
-// Maps built from stems, masks and zones, run on the rows of `map_rows`.
+// Maps built from stems, masks and zones.
 use crate::edges;
-use crate::map_rows;
 use crate::maps;
 use crate::tables;
 use crate::tables::Rows;
@@ -16,16 +15,12 @@ use zones::HintState;
 ghost use Prim.Native.Nat.{_+_, _≤_};
 
 pub fn run() {
-    tables::run(
-        b"stem 16 to 80 at scale 2048",
-        Rows::Builds,
-        &map_rows::STARRED,
-    );
-    tables::run(b"stems and zones", Rows::Builds, &map_rows::BUILDS);
-    tables::run(b"em boxes", Rows::Builds, &map_rows::EM_BOXES);
-    tables::run(b"baselines", Rows::Builds, &map_rows::BASELINES);
-    tables::run(b"crowded stems", Rows::Builds, &map_rows::CROWDS);
-    tables::run(b"narrow counters", Rows::Builds, &map_rows::TOUCHES);
+    tables::run(b"stem 16 to 80 at scale 2048", Rows::Builds);
+    tables::run(b"stems and zones", Rows::Builds);
+    tables::run(b"em boxes", Rows::Builds);
+    tables::run(b"baselines", Rows::Builds);
+    tables::run(b"crowded stems", Rows::Builds);
+    tables::run(b"narrow counters", Rows::Builds);
 }
 
 // A row: a scale and parameters, stems, the initial map's edges, and what two masks make of them.

@@ -1,6 +1,5 @@
-// Maps built edge by edge, run on the rows of `map_rows`.
+// Maps built edge by edge.
 use crate::edges;
-use crate::map_rows;
 use crate::tables;
 use crate::tables::Rows;
 use fixed::Fixed;
@@ -11,7 +10,7 @@ use stems::StemHint;
 ghost use Prim.Native.Nat.{_+_, _≤_};
 
 pub fn run() {
-    tables::run(b"maps edge by edge", Rows::Maps, &map_rows::MAPS);
+    tables::run(b"maps edge by edge", Rows::Maps);
 }
 
 // A row: a scale, 1 if the initial map is given, the stems of that map and those of the map; the map's

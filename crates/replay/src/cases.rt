@@ -1,4 +1,4 @@
-// One case of the sample.
+// One case.
 use crate::judging::Verdict;
 use crate::judging::judged;
 use words::natural;
@@ -18,9 +18,9 @@ pub struct Judged {
     pub verdict: Verdict,
 }
 
-// One case. There is place for 4,096 words of script, and as many of room.
+// One case. There is place for 16,400 words of script, which are more than a script may have, and for 4,096 of room.
 pub fn case(file: i32) -> Seen {
-    let mut script = [0u8; 16384];
+    let mut script = [0u8; 65600];
     let mut stored = [0u8; 16384];
     let mut out = [0i32; 4096];
     read_case(file, &mut script, &mut stored, &mut out)

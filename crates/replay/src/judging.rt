@@ -47,7 +47,7 @@ fn first_different(out: &[i32], stored: &[u8]) -> usize
     out.len()
 }
 
-// Runs a script of the sample. The six words of a case's header have the fill at 2, the number at 4 and the place at 5.
+// Runs a script. The six words of a case's header have the fill at 2, the number at 4 and the place at 5.
 pub fn judged(head: &[u8], script: &[u8], stored: &[u8], out: &mut [i32]) -> Verdict
     requires { ⌜ (24 ≤ length (now head)) × (4 * length (now out) ≤ length (now stored)) ⌝ }
     ensures { λ r. ⌜ r ≡ verdictOf (now (head .entry)) (now (stored .entry)) (scriptOf (now (script .entry)) (lent (numberAt (rawAt (now (head .entry))) 2) (length (now (out .entry))) (now (out .entry)))) ⌝ }

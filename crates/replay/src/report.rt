@@ -49,15 +49,44 @@ impl Tally {
     }
 }
 
-// Runs as many cases as the file's first word says, and says what came of them.
-pub fn all(file: i32) {
+// The tables of scripts.
+pub fn scripts(file: i32) {
+    table(b"the whole case", file);
+    table(b"lengths", file);
+    table(b"header", file);
+    table(b"padding", file);
+    table(b"parameters", file);
+    table(b"kinds", file);
+    table(b"operands cut off", file);
+    table(b"masks", file);
+    table(b"two faults", file);
+    table(b"rooms", file);
+    table(b"glyphs", file);
+    table(b"damaged copies", file);
+    end(file);
+}
+
+// The sample, which is one table.
+pub fn sample(file: i32) {
+    let tally = table(b"sample", file);
+    end(file);
+    totals(tally);
+}
+
+// Runs as many cases as the next word says, and says how many differ.
+fn table(name: &[u8], file: i32) -> Tally {
     let mut word = [0u8; 4];
     read_full(file, &mut word);
     let tally = run(file, natural(&word, 0));
-    if read_full(file, &mut word) != 0 {
-        write_all(STDOUT_FILENO, b"the sample goes on after its last case\n");
+    rows::counts(name, tally.run, tally.differ);
+    tally
+}
+
+fn end(file: i32) {
+    let mut byte = [0u8; 1];
+    if read_full(file, &mut byte) != 0 {
+        write_all(STDOUT_FILENO, b"the file goes on after its last case\n");
     }
-    totals(tally);
 }
 
 // Runs so many cases, or those before the first that cannot be read.
@@ -108,7 +137,6 @@ fn difference(i: usize, verdict: Verdict) {
 }
 
 fn totals(tally: Tally) {
-    rows::counts(b"sample", tally.run, tally.differ);
     total(b"OK", tally.numbers[0]);
     total(b"BAD_SCRIPT", tally.numbers[1]);
     total(b"BAD_SCALE", tally.numbers[2]);

@@ -1,19 +1,6 @@
 // A row and its numbers.
 use fixed::Fixed;
-ghost use Prim.Native.Nat.{_≤_, _<_};
-ghost use lib.ListN.{length};
-
-// Where the row at `at` ends, within the table. A row has at least its count.
-pub fn end_of_row(table: &[i32], at: usize) -> usize
-    requires { ⌜ at < length (now table) ⌝ }
-    ensures { λ r. ⌜ (at < r) × (r ≤ length (now (table .entry))) ⌝ }
-{
-    let n = count(table, at, table.len() - at);
-    if n == 0 {
-        return at + 1;
-    }
-    at + n
-}
+ghost use Prim.Native.Nat.{_≤_};
 
 // A number of the row, or 0 past its end.
 pub fn number(row: &[i32], at: usize) -> i32 {

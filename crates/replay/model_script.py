@@ -1,4 +1,4 @@
-"""Scripts as document 01 says them ("The script" and its table), for the tables of `scripts`.
+"""Scripts as document 01 says them ("The script" and its table), for the tables of `replay`.
 
 Written from the paper's words and the readings of them; no other code of the project takes part. What a call
 on a drawing writes comes from the model of `figures_calls`.

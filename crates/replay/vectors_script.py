@@ -1,38 +1,31 @@
-"""Makes the rows that `scripts` runs against whole scripts:
+"""Makes the tables of whole scripts that `replay` runs before its sample:
 
-    python3 vectors_script.py > src/script_rows.rt
+    python3 vectors_script.py > data/scripts.bin
 
 The answers of the first table are worked by hand from document 01. The number and the place of every refusal
-in the tables from LENGTHS to ORDER are written down by hand beside its case, from 01's table, and compared
+in the tables from `lengths` to `order` are written down by hand beside its case, from 01's table, and compared
 with the model; so is each answer OK there. All other answers, and the words of results, come from
 model_script.py.
 """
 
 import random
 import struct
+import sys
 from itertools import combinations
 
 from model_script import (
     BAD_BLUES, BAD_COMMAND, BAD_MASK, BAD_SCALE, BAD_SCRIPT, CLEAR, CLOSE, COUNTER_MASK, CURVE, FINISH, HINT_MASK,
     LINE, MOVE, NO_ROOM, OK, OPERANDS, STEM, run_script, words_of
 )
-from vectors import HIGH, LOW, print_rows
-from vectors_stems import counted
+from vectors import HIGH, LOW
 from vectors_zones import EM_BOX, font, given
 
-HEADER = """\
-// Scripts, and rows of cases. A case names a part of SCRIPTS, changes it, and has the room and the answer.
-// A row starts with the count of its numbers.
-// `python3 vectors_script.py > src/script_rows.rt` makes this file. The answers of WHOLE are worked by hand from
-// document 01. Numbers and places of the tables from LENGTHS to ORDER are written by hand from its table, and
-// agree with model_script.py, which is written from that document; the rest comes from that model.
-"""
 ONE = 65536
 # More words than any result here has, but for one.
 AMPLE = 120
-# What stands in the buffer of which the script is lent a part, from place 8 on. No result has such words: they
-# are no counts and no kinds of records, and their low 10 bits are not clear.
-LENT = [sign * (1701 + at) for at in range(72) for sign in (1, -1)]
+# The words that a case is lent: the first, and how much more each is than the one before it.
+FILL, STEP = 1701, 0x9E3779B1
+
 
 
 # Scripts.
@@ -163,25 +156,22 @@ def of_bytes(data):
     return words_of(bytes(data) + bytes(-len(data) % 4)), [length(len(data))]
 
 
-# Rows: where the script stands in SCRIPTS and how many words it has; the count of changes and the changes; the
-# room, the number and the place of the answer; the first word of the output that changes, and from it on all
-# that change.
+# A case as `replay` reads it: the bytes of the script, the words of the room, the first lent word, no mark, the
+# number and the place of the answer; the script up to a whole word; every word of the output.
 
 
-scripts = []
+def case_of(script, changes, room, number, place, first, after):
+    data = changed(script, changes)
+    out = lent_words(room)
+    # A word that is written would show if it were not.
+    assert not any(old == new for old, new in zip(out[first:], after))
+    out[first : first + len(after)] = after
+    head = struct.pack("<6I", len(data), room, FILL, 0, number, place)
+    return head + data + bytes(-len(data) % 4) + bytes_of(out)
 
 
-def place_of(script):
-    """Where a script stands in SCRIPTS, which it enters if need be."""
-    if script not in scripts:
-        scripts.append(script)
-    return sum(map(len, scripts[: scripts.index(script)]))
-
-
-def row_of(script, changes, room, number, place, first, after):
-    assert len(changes) <= 16 and room <= len(LENT) - 16
-    flat = [value for change in changes for value in change]
-    return counted([place_of(script), len(script), len(changes), *flat, room, number, place, first, *after])
+def lent_words(room):
+    return [(FILL + STEP * at + 2**31) % 2**32 - 2**31 for at in range(room)]
 
 
 def answered(script, changes, room):
@@ -194,11 +184,11 @@ def answered(script, changes, room):
     return number, place, after[0] if after else 0, [out[at] for at in after]
 
 
-def row(script, changes=(), room=AMPLE, expected=None):
+def case(script, changes=(), room=AMPLE, expected=None):
     """A case, with the number and the place where they are written by hand."""
     said = answered(script, changes, room)
     assert expected in (None, said[:2]), (script, changes, room, expected, said)
-    return row_of(script, changes, room, *said)
+    return case_of(script, changes, room, *said)
 
 
 # 01's whole case, worked by hand: the records of its commands at 16, 19, 22 and 25 take 3, 0, 3 and 2 words.
@@ -217,9 +207,9 @@ def whole():
         yield room, OK, 0, 0, [1, 4, 4, 8, *records]
 
 
-def whole_row(room, *said):
+def whole_case(room, *said):
     assert said == answered(WHOLE, [], room)
-    return row_of(WHOLE, [], room, *said)
+    return case_of(WHOLE, [], room, *said)
 
 
 # Refusals, each with its number and place.
@@ -428,8 +418,8 @@ def order():
         yield FAULTY, [*changes, *other], number, place, min(room, least)
 
 
-def refusal_row(script, changes, number, place, room=AMPLE):
-    return row(script, changes, room, (number, place))
+def refusal(script, changes, number, place, room=AMPLE):
+    return case(script, changes, room, (number, place))
 
 
 # Rooms, glyphs and damage. The model answers.
@@ -492,23 +482,18 @@ def damage():
         yield LETTER, [(BYTE, random.randrange(112, 4 * len(LETTER)), random.randrange(256))]
 
 
-REFUSALS = {
-    "LENGTHS": lengths, "HEADER": header_words, "PADDING": padding, "PARAMETERS": parameters, "KINDS": kinds,
-    "CUTS": cuts, "MASKS": masks, "ORDER": order
-}
-ANSWERED = {"ROOMS": rooms, "GLYPHS": glyphs, "DAMAGE": damage}
+# The tables in the order in which `replay` names them.
+REFUSALS = [lengths, header_words, padding, parameters, kinds, cuts, masks, order]
+ANSWERED = [rooms, glyphs, damage]
 
 
 def main():
     random.seed(1013)
-    tables = {"WHOLE": [whole_row(*case) for case in whole()]}
-    tables |= {name: [refusal_row(*case) for case in cases()] for name, cases in REFUSALS.items()}
-    tables |= {name: [row(*case) for case in cases()] for name, cases in ANSWERED.items()}
-    print(HEADER, end="")
-    print_rows("LENT", [LENT])
-    print_rows("SCRIPTS", scripts)
-    for name, rows in tables.items():
-        print_rows(name, rows)
+    tables = [[whole_case(*parts) for parts in whole()]]
+    tables += [[refusal(*parts) for parts in cases()] for cases in REFUSALS]
+    tables += [[case(*parts) for parts in cases()] for cases in ANSWERED]
+    for table in tables:
+        sys.stdout.buffer.write(struct.pack("<I", len(table)) + b"".join(table))
 
 
 if __name__ == "__main__":
