@@ -1,4 +1,4 @@
--- Any two outcomes that meet the contract of a public function are equal, over that contract as the toolchain reads it: the part that `mask_part` returns, the
+-- Any two outcomes that meet the contract of a public function are equal, over that contract as the toolchain reads it: the
 -- count, and of `run` the result and every word of the output. Assumes nothing.
 use mathlib.Core.Path.{_≡_, sym, _∙_}
 use borrow.Fn.Kinds.{endedOf}
@@ -6,19 +6,12 @@ use borrow.Fn.World.{ArgsD, ResD}
 use contract.Lifetimes.{Lfts}
 use denote.Triple.Clauses.{AtExit}
 use denote.Ref.{now}
-use Rattle.run.proofs.marks.mask_part as mask-part
-use Rattle.run.proofs.marks.mask_part.Kinds as mask-part-kinds
-use Rattle.run.proofs.marks.mask_part.Reads as mask-part-reads
 use Rattle.run.proofs.count.count_records as count-records
 use Rattle.run.proofs.count.count_records.Kinds as count-records-kinds
 use Rattle.run.proofs.count.count_records.Reads as count-records-reads
 use Rattle.run.proofs.running.run as run
 use Rattle.run.proofs.running.run.Kinds as run-kinds
 use Rattle.run.proofs.running.run.Reads as run-reads
-
-module _ (κs : Lfts 1) (a : ArgsD mask-part.signature κs) (r r′ : ResD mask-part.signature κs) (x x′ : AtExit (endedOf 1 mask-part-kinds.ps mask-part-kinds.r) κs) where
-  pub mask-part-unique : mask-part-reads.Post κs a r x → mask-part-reads.Post κs a r′ x′ → now r ≡ now r′
-  mask-part-unique p q = p ∙ sym q
 
 module _ (κs : Lfts 1) (a : ArgsD count-records.signature κs) (r r′ : ResD count-records.signature κs) (x x′ : AtExit (endedOf 1 count-records-kinds.ps count-records-kinds.r) κs) where
   pub count-records-unique : count-records-reads.Post κs a r x → count-records-reads.Post κs a r′ x′ → r ≡ r′

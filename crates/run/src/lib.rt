@@ -4,6 +4,5 @@ mod marks;
 mod running;
 
 pub use count::count_records;
-pub use marks::mask_part;
 pub use running::Ran;
 pub use running::run;

@@ -11,7 +11,7 @@ ghost use Rattle.drawing.specs.Calls.{hintsOf};
 ghost use Rattle.run.specs.Run.{maskAt, maskEnd, markCall};
 
 // The very bytes of the script that a mask command names.
-pub fn mask_part(script: &[u8], from: usize, len: usize) -> &[u8]
+fn mask_part(script: &[u8], from: usize, len: usize) -> &[u8]
     requires { ⌜ from + len ≤ length (now script) ⌝ }
     ensures { λ r. ⌜ now r ≡ take len (drop from (now (script .entry))) ⌝ }
 {

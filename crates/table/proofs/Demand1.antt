@@ -22,9 +22,9 @@ use Rattle.header.proofs.Fine.{header-refusing, params-refusing}
 use Rattle.commands.specs.declared.reading.Command.{Command}
 use Rattle.commands.specs.Commands.{Placed}
 use Rattle.commands.specs.Faults.{isBad, hasBadMask, commandRows}
-use Rattle.run.specs.Room.{Fitted, fitted}
+use Rattle.run.specs.Room.{Step, Fitted, fitted}
 use Rattle.script.specs.Script.{commandsIn, checkRows, stepsIn, Result, endedBy, scriptOf}
-use Rattle.table.specs.Demand1.{HeaderFine, Checked, header, pairs, FaultWhen, wordsAlong, small, records, When, Left}
+use Rattle.table.specs.Demand1.{Overflow, HeaderFine, Checked, header, pairs, FaultWhen, wordsAlong, small, records, When, Left}
 use Rattle.table.proofs.Rooms.{fits-whole, fits-until, Over, fits-or-not}
 use Rattle.table.proofs.Params.{scale-answer, blues-answer, pairs-answer, params-or-row}
 use Rattle.table.proofs.Faults.{command-answer, mask-answer, Fault, fine-or-fault}
@@ -78,9 +78,21 @@ module _ (s : List ℕ) where
     unfolding scriptOf
     by-run c h f e = rw (c, le-ltb (length out) 4 h) (ap (λ (g : Fitted). endedBy g out) e)
 
-    -- where a row is met its answer is given, and its words are left
+    -- where a row is met its answer is given, and its words are left: of OK, of NO_ROOM without and with room for a header, and of all
+    ok-ends : (w : When s out Ok) → scriptOf s out ≡ record { answer = Ok; left = Left s out Ok w }
+    ok-ends w = by-run (w .checked) (omega arith) _ (fits-whole (length out - 4) (stepsIn s) (omega arith))
+
+    small-ends : (p : ℕ) (c : Checked s) (h : length out < 4) (e : p ≡ rawAt s 4) → scriptOf s out ≡ record { answer = NoRoom p; left = Left s out (NoRoom p) (small c h e) }
+    small-ends p c h e = by-size c h ∙ ap (λ (q : ℕ). record { answer = NoRoom q; left = out }) (sym e)
+
+    records-ends : (p : ℕ) (c : Checked s) (h : 4 ≤ length out) (before : List Step) (o : Overflow s (length out - 4) p before) → scriptOf s out ≡ record { answer = NoRoom p; left = Left s out (NoRoom p) (records c h before o) }
+    records-ends p c h before o =
+        by-run c h _
+        (ap (fitted (length out - 4)) (o .split) ∙ fits-until (length out - 4) before (o .at) (o .after) (o .fit) (o .past) ∙
+        ap (λ (q : ℕ). record { said = NoRoom q; words = wordsAlong before }) (o .place))
+
     ends : (a : Answer) (w : When s out a) → scriptOf s out ≡ record { answer = a; left = Left s out a w }
-    ends Ok w = by-run (w .checked) (omega arith) _ (fits-whole (length out - 4) (stepsIn s) (omega arith))
+    ends Ok w = ok-ends w
     ends (BadScript p) (header f) = by-fault (BadScript p) refl (by-header (BadScript p) (omega arith) (first-gives Ok (headerRows s) (BadScript p) f))
     ends (BadScript p) (pairs h c f n e) = by-fault (BadScript p) refl (by-params h (BadScript p) (omega arith) (pairs-answer s c f n ∙ ap BadScript (sym e)))
     ends BadScale w = by-fault BadScale refl (by-params (w .header) BadScale (omega arith) (scale-answer s (w .scale)))
@@ -91,11 +103,8 @@ module _ (s : List ℕ) where
     ends (BadMask p) w =
         by-fault (BadMask p) refl
         (in-commands (w .header) (w .params) (w .split) (mask-answer (rawAt s 7) (w .before) (w .at) (w .after) (w .fine) (w .holds) ∙ ap BadMask (w .place)))
-    ends (NoRoom p) (small c h e) = by-size c h ∙ ap (λ (q : ℕ). record { answer = NoRoom q; left = out }) (sym e)
-    ends (NoRoom p) (records c h before o) =
-        by-run c h _
-        (ap (fitted (length out - 4)) (o .split) ∙ fits-until (length out - 4) before (o .at) (o .after) (o .fit) (o .past) ∙
-        ap (λ (q : ℕ). record { said = NoRoom q; words = wordsAlong before }) (o .place))
+    ends (NoRoom p) (small c h e) = small-ends p c h e
+    ends (NoRoom p) (records c h before o) = records-ends p c h before o
 
     -- ---- every script meets a row
     abbrev Met : Type 0
