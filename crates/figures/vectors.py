@@ -2,7 +2,8 @@
 
     (python3 vectors.py; python3 vectors_stems.py; python3 vectors_zones.py) > stdin
 
-A row has three operands, with 0 for one that is not taken, and the expected bits. The expected bits come from exact fractions, by the rules of document 01, "Numbers in 16.16".
+A row has three operands, with 0 for one that is not taken, and the expected bits, which come from exact fractions, by the
+rules of document 01, "Numbers in 16.16".
 """
 
 import random
