@@ -8,7 +8,7 @@ use std::collections::{BTreeMap, BTreeSet};
 
 /// How many of the shortest cases are kept for each thing that a case can show.
 const KEPT: usize = 3;
-/// The most bytes of a script, and the most words of a room: what the program `replay` has place for.
+/// The most bytes of a script, and the most words of a room, of a case in the sample; the program `replay` has place for no less.
 const SCRIPT: usize = 16_384;
 const ROOM: usize = 4_096;
 /// The most bytes of a script and its room together among the cases that fill the sample up.

@@ -1,4 +1,4 @@
--- How a run is judged by what the sample has stored for it.
+-- How a run is judged by what is stored for it.
 use mathlib.Core.Bool.{Bool, true, false, cond}
 use mathlib.Core.List.{List}
 use Prim.Native.Nat.{ℕ, zero, suc}
