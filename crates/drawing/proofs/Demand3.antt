@@ -1,13 +1,14 @@
 -- Demand 3: of every drawing that there can be, both maps are sound. Assumes nothing.
-use mathlib.Core.Path.{_≡_, refl, sym, subst, _∙_}
+use mathlib.Core.Path.{_≡_, refl, sym, ap, subst, _∙_}
 use mathlib.Core.Bool.{Bool, true, false, _&&_, not}
-use mathlib.Core.List.{_++_, _∷_, []}
+use mathlib.Core.List.{List, _++_, _∷_, []}
 use Prim.Native.Nat.{ℕ, _+_, _≤_, _<_}
 use native.Mathlib.Omega.{arith}
 use lib.Dec.{ltb, leb}
-use lib.IntN.{pos}
+use lib.IntN.{ℤ, pos}
 use lib.ListN.{length}
 use lib.Seq.{length-take-le}
+use borrow.Author.Tests.{le-leb}
 use Rattle.fixed.specs.declared.Fixed.{Fixed}
 use Rattle.fixed.specs.Fixed.{fromBits, mulF, truncF, lessF}
 use Rattle.stems.specs.declared.mask.HintMask.{HintMask}
@@ -22,15 +23,17 @@ use Rattle.hintmap.specs.Stems.{Pair}
 use Rattle.hintmap.proofs.Stems.{Good, new-good, invalid-good}
 use Rattle.hintmap.proofs.Words.{stems-ascend, bottom-top, shared}
 use Rattle.hintmap.proofs.Mapping.{mapped}
-use Rattle.build.proofs.Sound.{initial-good, built-good, built-scale}
+use Rattle.build.proofs.Sound.{initial-good, built-good, initial-scale, built-scale}
 use Rattle.pen.specs.declared.strokes.Point.{Point}
+use Rattle.pen.specs.Records.{fits}
 use Rattle.pen.specs.Strokes.{closingWords, moveOf}
 use Rattle.pen.proofs.Words.{words-emitted}
 use Rattle.hints.specs.declared.hints.Hints.{Hints}
 use Rattle.hints.specs.declared.path.Path.the-variants.{Move}
 use Rattle.drawing.specs.declared.calls.Drawing.{Drawing}
+use Rattle.drawing.specs.declared.calls.After.{After}
 use Rattle.hints.specs.Hints.{Kept, newHints, stemBy, withStem, maskBy, withMask, initialBy, withInitial, countered, readyBy, readyOf, devicePoint}
-use Rattle.drawing.specs.Calls.{Call, stem, hintMask, counterMask, clear, close, draw, readyFor, hintsOf, wordsFor}
+use Rattle.drawing.specs.Calls.{Call, stem, hintMask, counterMask, clear, close, draw, readyFor, hintsOf, nextOf, wordsFor, afterBy, Called}
 use Rattle.drawing.specs.Open.{countsFit, openBy, openOf}
 use Rattle.drawing.specs.Reached.{Reached, opened, called, roomBy, edge, Sound, OneStem, Carried}
 use Rattle.hints.specs.Path.{hasPoint}
@@ -74,22 +77,28 @@ pub record Fine (st : HintState) (h : Hints) : Type 0 where
   pub kept : Kept st h
   pub initial : Good (h .initial)
   pub map : Good (h .map)
+  pub initialScale : h .initial .scale ≡ st .scale
   pub scale : h .map .scale ≡ st .scale
 
 fine-new : (st : HintState) → st .«zone_count» ≤ 12 → Fine st (newHints (st .scale))
-fine-new st z = record { kept = kept-new st (st .scale) z; initial = new-good (st .scale); map = new-good (st .scale); scale = refl }
+fine-new st z = record { kept = kept-new st (st .scale) z; initial = new-good (st .scale); map = new-good (st .scale); initialScale = refl; scale = refl }
 
 module _ (st : HintState) (h : Hints) (f : Fine st h) where
-  initial-by : (b : Bool) → (Good (initialBy b st h .initial)) × ((Good (initialBy b st h .map)) × (initialBy b st h .map .scale ≡ st .scale))
-  initial-by true = (f .initial, (f .map, f .scale))
-  initial-by false = (initial-good st (h .stems), (f .map, f .scale))
+  initial-by : (b : Bool) → (Good (initialBy b st h .initial)) × (initialBy b st h .initial .scale ≡ st .scale)
+  initial-by true = (f .initial, f .initialScale)
+  initial-by false = (initial-good st (h .stems), initial-scale st (h .stems))
+
+  -- which leaves the current map as it is
+  map-by : (b : Bool) → (Good (initialBy b st h .map)) × (initialBy b st h .map .scale ≡ st .scale)
+  map-by true = (f .map, f .scale)
+  map-by false = (f .map, f .scale)
 
   fine-stem : (min max : Fixed) → Fine st (withStem min max h)
   unfolding withStem
   fine-stem min max = go (not (h .map .«is_valid») && ltb (h .stems .count) 96) (kept-stem st h (f .kept) min max)
     where
       go : (b : Bool) → Kept st (stemBy b min max h) → Fine st (stemBy b min max h)
-      go true k = record { kept = k; initial = f .initial; map = f .map; scale = f .scale }
+      go true k = record { kept = k; initial = f .initial; map = f .map; initialScale = f .initialScale; scale = f .scale }
       go false k = f
 
   fine-mask : (m : HintMask) → Fine st (withMask m h)
@@ -98,13 +107,14 @@ module _ (st : HintState) (h : Hints) (f : Fine st h) where
     where
       go : (b : Bool) → Kept st (maskBy b m h) → Fine st (maskBy b m h)
       go true k = f
-      go false k = record { kept = k; initial = f .initial; map = invalid-good (h .map) (f .map); scale = f .scale }
+      go false k = record { kept = k; initial = f .initial; map = invalid-good (h .map) (f .map); initialScale = f .initialScale; scale = f .scale }
 
   fine-counter : (m : HintMask) → Fine st (countered st m h)
   unfolding countered withInitial
   fine-counter m =
       let i = initial-by (h .initial .«is_valid») in
-      record { kept = kept-counter st h (f .kept) m; initial = i .0; map = i .1 .0; scale = i .1 .1 }
+      let c = map-by (h .initial .«is_valid») in
+      record { kept = kept-counter st h (f .kept) m; initial = i .0; map = c .0; initialScale = i .1; scale = c .1 }
 
   fine-ready : Fine st (readyOf st h)
   unfolding readyOf withInitial
@@ -114,7 +124,8 @@ module _ (st : HintState) (h : Hints) (f : Fine st h) where
       go true k = f
       go false k =
           let j = initialBy (h .initial .«is_valid») st h in
-          record { kept = k; initial = initial-by (h .initial .«is_valid») .0; map = built-good st (j .mask) (j .initial) (j .stems); scale = built-scale st (j .mask) (j .initial) (j .stems) }
+          let i = initial-by (h .initial .«is_valid») in
+          record { kept = k; initial = i .0; map = built-good st (j .mask) (j .initial) (j .stems); initialScale = i .1; scale = built-scale st (j .mask) (j .initial) (j .stems) }
 
   fine-path : (points : Bool) → Fine st (readyFor points st h)
   fine-path true = fine-ready
@@ -155,12 +166,26 @@ pub fine : {st : HintState} {d : Drawing} → Reached st d → Fine st (d .hints
 fine (opened p s) = fine-open p s
 fine (called {st} {d} r c room) = fine-room (leb (length (wordsFor st d c)) room) st d c (fine r)
 
--- ---- demand 3: both maps are sound, and the current one has the drawing's scale
+-- ---- demand 3: both maps are sound, and have the drawing's scale
 pub demand-3 : {st : HintState} {d : Drawing} → Reached st d → Sound (d .hints .initial) × Sound (d .hints .map)
 demand-3 {d} r = (sound (d .hints .initial) (fine r .initial), sound (d .hints .map) (fine r .map))
 
-pub drawn-scale : {st : HintState} {d : Drawing} → Reached st d → d .hints .map .scale ≡ st .scale
-drawn-scale r = fine r .scale
+pub drawn-scale : {st : HintState} {d : Drawing} → Reached st d → (d .hints .initial .scale ≡ st .scale) × (d .hints .map .scale ≡ st .scale)
+drawn-scale r = (fine r .initialScale, fine r .scale)
+
+-- ---- what the calls' contracts give of such a drawing is such a drawing: of a call that was done, and of one that may have been refused
+pub reached-next : {st : HintState} {d : Drawing} → Reached st d → (c : Call) → Reached st (nextOf st d c)
+reached-next {st} {d} r c =
+    let n = length (wordsFor st d c) in
+    rw (le-leb n n (omega arith)) at (called r c n)
+
+after-room : (b : Bool) (st : HintState) (d : Drawing) (c : Call) → afterBy b st d c .drawing ≡ roomBy b st d c
+after-room true st d c = refl
+after-room false st d c = refl
+
+pub reached-called : {st : HintState} {d : Drawing} → Reached st d → (c : Call) {out left : List ℤ} {said : After} → Called st d c out said left → Reached st (said .drawing)
+reached-called {st} {d} r c {out} e =
+    subst (λ (x : Drawing). Reached st x) (sym (ap (λ (a : After). a .drawing) (e .answer) ∙ after-room (fits (wordsFor st d c) out) st d c)) (called r c (length out))
 
 -- what a move writes of its point: the height as the current map carries it, built first if it is invalid, with the low 10 bits cleared
 pub moved-height : (st : HintState) (d : Drawing) (p : Point) →

@@ -41,7 +41,7 @@ no-words (w ∷ ws) h = absurd (no h)
     no : suc (length ws) ≤ 0 → ⊥
     no h = omega arith
 
-enough : (f g : ℕ) (ws : List ℤ) → length ws ≤ f → length ws ≤ g → recordsBy f ws ≡ recordsBy g ws
+pub enough : (f g : ℕ) (ws : List ℤ) → length ws ≤ f → length ws ≤ g → recordsBy f ws ≡ recordsBy g ws
 unfolding recordsBy
 enough zero g ws h k = rw (no-words ws h) (sym (none-by g))
 enough (suc f) zero ws h k = rw (no-words ws k)

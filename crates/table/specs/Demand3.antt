@@ -1,0 +1,19 @@
+-- Demand 3 of scripts: the drawings that a script's run goes through.
+use mathlib.Core.List.{List, [], _∷_}
+use Prim.Native.Nat.{ℕ}
+use Rattle.zones.specs.declared.state.HintState.{HintState}
+use Rattle.drawing.specs.declared.calls.Drawing.{Drawing}
+use Rattle.drawing.specs.Calls.{nextOf}
+use Rattle.drawing.specs.Open.{newDrawing}
+use Rattle.words.specs.Words.{rawAt, numberAt}
+use Rattle.run.specs.Run.{Asked}
+use Rattle.script.specs.Script.{zonesOf}
+
+-- a drawing after some calls, each of them done
+unfoldable pub drawingAfter : HintState → Drawing → List Asked → Drawing
+drawingAfter st d [] = d
+drawingAfter st d (c ∷ cs) = drawingAfter st (nextOf st d (c .call)) cs
+
+-- the new drawing of a script after some of its calls
+abbrev pub drawingIn : List ℕ → List Asked → Drawing
+drawingIn s cs = drawingAfter (zonesOf s) (newDrawing (numberAt (rawAt s) 1)) cs
