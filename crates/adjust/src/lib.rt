@@ -15,7 +15,7 @@ pub struct Moves {
     pub down: Fixed,
 }
 
-// The move that is made, and whether it is short of the best.
+// The move that is made, and whether there was no room for a shorter move up, or for any.
 pub struct Choice {
     pub by: Fixed,
     pub short: bool,

@@ -8,7 +8,7 @@ use Rattle.zones.specs.declared.state.HintState.{HintState}
 use Rattle.hintmap.specs.declared.map.HintMap.{HintMap}
 use Rattle.hintmap.specs.declared.insert.Edges.{Edges}
 use Rattle.hintmap.specs.declared.insert.Edges.the-variants.{One, Two}
-use Rattle.hintmap.specs.Insert.{enters, putEdges, insertIn}
+use Rattle.hintmap.specs.Insert.{mayEnter, putEdges, insertIn}
 use Rattle.hintmap.proofs.Enter.{enters-any, enters-two, placed-enters}
 use Rattle.hintmap.proofs.Outcome.{by-outcome}
 use Rattle.build.specs.declared.place.Placed.{Placed}
@@ -17,7 +17,7 @@ use Rattle.build.specs.Place.{lockedTurn, freeTurn}
 use Rattle.build.proofs.Steps.{Stable, boxed-keeps, baselined-keeps, locked-keeps, free-keeps}
 
 -- what may enter has room
-put-len : (m : HintMap) (at : ℕ) (e : Edges) → enters (m .len) e ≡ true → putEdges m at e .len ≤ 96
+put-len : (m : HintMap) (at : ℕ) (e : Edges) → mayEnter (m .len) e ≡ true → putEdges m at e .len ≤ 96
 unfolding putEdges
 put-len m at (One e) h = omega (arith, enters-any (m .len) (One e) h)
 put-len m at (Two b t) h = omega (arith, enters-two (m .len) b t h)

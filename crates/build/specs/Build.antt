@@ -18,11 +18,11 @@ use Rattle.build.specs.declared.save.Built.{Built}
 use Rattle.build.specs.Ghosts.{emBoxed, baselined}
 use Rattle.build.specs.Place.{declaredIn, lockedTurns, freeTurns}
 
--- the map with the em box's ghosts alone
+-- a new map, with the em box's ghosts where they are asked for
 abbrev pub boxedMap : HintState → HintMap → Bool → HintMap
 boxedMap st initial given = emBoxed (st .«do_em_box_hints») initial given (newMap (st .scale))
 
--- ---- the initial map: all stems that are locked or captured, then the baseline, with no initial map given
+-- ---- the initial map: all stems that are locked or captured, then the baseline; no initial map is given, and the one that is named is not read
 abbrev pub initialPlaced : HintState → Stems → Placed
 initialPlaced st ss =
     lockedTurns st (newMap (st .scale)) false 0 (declaredIn ss) (record { map = boxedMap st (newMap (st .scale)) false; rest = allActive })

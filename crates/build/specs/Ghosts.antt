@@ -52,6 +52,7 @@ emBoxed false initial given m = m
 unfoldable pub uncovered : HintMap → Bool
 uncovered m = eqb (m .len) 0 || (lessF ZERO (getD (m .edges) 0 noHint .«cs_coord») || lessF (getD (m .edges) (m .len - 1) noHint .«cs_coord») ZERO)
 
+-- no initial map is given, and the one that is named is not read
 abbrev pub baselineBy : Bool → HintMap → HintMap
 baselineBy true m = insertIn m (chosen (ghostAt GhostBottom ZERO ZERO (m .scale)) noHint) m false
 baselineBy false m = m

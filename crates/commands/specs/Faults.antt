@@ -1,10 +1,11 @@
 -- What is wrong with a command (01's table, BAD_COMMAND and BAD_MASK).
 use mathlib.Core.Bool.{Bool, true, false, cond, _||_}
 use mathlib.Core.List.{List, [], _∷_, _++_}
-use Prim.Native.Nat.{ℕ, _+_, _^_}
-use lib.Dec.{ltb, leb}
+use Prim.Native.Nat.{ℕ, _+_}
+use lib.Dec.{ltb}
 use Rattle.words.specs.declared.answer.Answer.{Answer}
 use Rattle.words.specs.declared.answer.Answer.the-variants.{Ok, BadCommand, BadMask}
+use Rattle.words.specs.Words.{negative}
 use Rattle.words.specs.Rows.{Row, row}
 use Rattle.commands.specs.declared.reading.Marking.the-variants.{Bad, Stem, Mask, Counter, Clear, Close}
 use Rattle.commands.specs.declared.reading.Command.{Command}
@@ -13,7 +14,7 @@ use Rattle.commands.specs.Commands.{Placed}
 
 -- start or length negative, or the end past the mask bytes; the sum is exact
 unfoldable pub maskPast : ℕ → ℕ → ℕ → Bool
-maskPast start len bytes = leb (2 ^ 31) start || (leb (2 ^ 31) len || ltb bytes (start + len))
+maskPast start len bytes = negative start || (negative len || ltb bytes (start + len))
 
 abbrev pub maskAnswer : ℕ → ℕ → ℕ → ℕ → Answer
 maskAnswer start len bytes place = cond (maskPast start len bytes) (BadMask place) Ok

@@ -14,10 +14,10 @@ use Rattle.fixed.proofs.Ints.{ints}
 use Rattle.fixed.proofs.Order.{heights}
 use Rattle.zones.specs.State.{Counted}
 use Rattle.words.specs.declared.answer.Answer.the-variants.{Ok}
-use Rattle.words.specs.Words.{rawAt, signed, numberAt}
+use Rattle.words.specs.Words.{rawAt, signed, negative, numberAt}
 use Rattle.words.specs.Answers.{firstOf}
 use Rattle.words.proofs.Rows.{Refusing, none-holds}
-use Rattle.header.specs.Header.{differs, negative, padded, headerRows}
+use Rattle.header.specs.Header.{differs, padded, headerRows}
 use Rattle.header.specs.Params.{pairsIn, paramRows, bluesAt, paramsOf, Whole}
 use Rattle.header.proofs.Tests.{refusing, both-false, alike, long}
 

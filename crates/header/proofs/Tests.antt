@@ -13,7 +13,8 @@ use Rattle.words.specs.Rows.{Row, rowAt}
 use Rattle.words.specs.Answers.{firstOf, numberOf}
 use Rattle.words.proofs.Rows.{hit, skip, Refusing}
 use Rattle.words.proofs.Answers.{refusal}
-use Rattle.header.specs.Header.{differs, negative, outside, lengthBad}
+use Rattle.header.specs.Header.{differs, outside, lengthBad}
+use Rattle.words.specs.Words.{negative}
 
 both-true : (a b : Bool) → (a && b) ≡ true → (a ≡ true) × (b ≡ true)
 both-true true b e = (refl, e)

@@ -1,19 +1,16 @@
 -- The header of a script (01's table, BAD_SCRIPT). Counts and offsets are read as numbers below 2^32, and are negative from 2^31 on; their sums are exact.
 use mathlib.Core.Bool.{Bool, true, not, _&&_, _||_}
 use mathlib.Core.List.{List, [], _∷_}
-use Prim.Native.Nat.{ℕ, _+_, _*_, _/_, _%_, _^_}
-use lib.Dec.{eqb, ltb, leb}
+use Prim.Native.Nat.{ℕ, _+_, _*_, _/_, _%_}
+use lib.Dec.{eqb, ltb}
 use lib.ListN.{length, drop}
 use Rattle.words.specs.declared.answer.Answer.{Answer}
 use Rattle.words.specs.declared.answer.Answer.the-variants.{BadScript}
-use Rattle.words.specs.Words.{rawAt}
+use Rattle.words.specs.Words.{rawAt, negative}
 use Rattle.words.specs.Rows.{Row, row}
 
 abbrev pub differs : ℕ → ℕ → Bool
 differs a b = not (eqb a b)
-
-abbrev pub negative : ℕ → Bool
-negative w = leb (2 ^ 31) w
 
 abbrev pub outside : ℕ → ℕ → ℕ → Bool
 outside a b n = ltb n a || ltb b n

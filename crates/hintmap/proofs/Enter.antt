@@ -14,30 +14,30 @@ use Rattle.hintmap.specs.declared.map.HintMap.{HintMap}
 use Rattle.hintmap.specs.declared.insert.Edges.{Edges}
 use Rattle.hintmap.specs.declared.insert.Edges.the-variants.{One, Two}
 use Rattle.hintmap.specs.Map.{view}
-use Rattle.hintmap.specs.Insert.{firstOf, edgesOf, enters, again, placedBy, placedFor}
+use Rattle.hintmap.specs.Insert.{firstOf, edgesOf, mayEnter, again, placedBy, placedFor}
 use Rattle.hintmap.proofs.Tests.{both}
 
 -- a pair leaves room for its top
-pub enters-two : (n : ℕ) (b t : Hint) → enters n (Two b t) ≡ true → n < 95
-unfolding enters
+pub enters-two : (n : ℕ) (b t : Hint) → mayEnter n (Two b t) ≡ true → n < 95
+unfolding mayEnter
 enters-two n b t h = ltb-true n 95 (both (not (lessF (t .«cs_coord») (b .«cs_coord»))) (ltb n 95) h .1)
 
-pub enters-any : (n : ℕ) (e : Edges) → enters n e ≡ true → n < 96
-unfolding enters
+pub enters-any : (n : ℕ) (e : Edges) → mayEnter n e ≡ true → n < 96
+unfolding mayEnter
 enters-any n (One e) h = ltb-true n 96 h
 enters-any n (Two b t) h = omega (arith, enters-two n b t h)
 
 -- so there is room for all of it
-pub enters-room : (n : ℕ) (e : Edges) → enters n e ≡ true → n + length (edgesOf e) ≤ 96
+pub enters-room : (n : ℕ) (e : Edges) → mayEnter n e ≡ true → n + length (edgesOf e) ≤ 96
 enters-room n (One e) h = omega (arith, enters-any n (One e) h)
 enters-room n (Two b t) h = omega (arith, enters-two n b t h)
 
 -- placed again or not, it may enter as before
-again-enters : (n : ℕ) (b : Bool) (es : List Hint) (s₀ s : Fixed) (e : Edges) → enters n (placedBy b es s₀ s e) ≡ enters n e
-unfolding enters again
+again-enters : (n : ℕ) (b : Bool) (es : List Hint) (s₀ s : Fixed) (e : Edges) → mayEnter n (placedBy b es s₀ s e) ≡ mayEnter n e
+unfolding mayEnter again
 again-enters n true es s₀ s (One e) = refl
 again-enters n true es s₀ s (Two b t) = refl
 again-enters n false es s₀ s e = refl
 
-pub placed-enters : (m : HintMap) (e : Edges) (initial : HintMap) (given : Bool) → enters (m .len) (placedFor m e initial given) ≡ enters (m .len) e
+pub placed-enters : (m : HintMap) (e : Edges) (initial : HintMap) (given : Bool) → mayEnter (m .len) (placedFor m e initial given) ≡ mayEnter (m .len) e
 placed-enters m e initial given = again-enters (m .len) (not (firstOf e .locked) && given) (view initial) (initial .scale) (m .scale) e

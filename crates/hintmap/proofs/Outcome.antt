@@ -12,7 +12,7 @@ use Rattle.hintmap.specs.declared.insert.Edges.the-variants.{One, Two}
 use Rattle.hintmap.specs.declared.insert.Outcome.{Outcome}
 use Rattle.hintmap.specs.declared.insert.Outcome.the-variants as outcome
 use Rattle.hintmap.specs.Map.{view}
-use Rattle.hintmap.specs.Insert.{firstOf, edgesOf, enters, again, placedBy, charClear, belowClear, aboveClear, putEdges, placeFor, placedFor, onlyIf, outcomeOf, insertBy, insertIn}
+use Rattle.hintmap.specs.Insert.{firstOf, edgesOf, mayEnter, again, placedBy, charClear, belowClear, aboveClear, putEdges, placeFor, placedFor, onlyIf, outcomeOf, insertBy, insertIn}
 use Rattle.hintmap.specs.Stems.{Alike, nil, cons}
 use Rattle.hintmap.proofs.Alike.{like-device, alike-refl}
 use Rattle.hintmap.proofs.Near.{place-below}
@@ -21,7 +21,7 @@ use Rattle.hintmap.proofs.View.{view-edges}
 
 -- each test, where it fails, brings about P: of order and room, of the edge at the place in character height, of the edge before it and of it on the device
 pub record Fails (m : HintMap) (e : Edges) (initial : HintMap) (given : Bool) (P : Type 0) : Type 0 where
-  pub entry : enters (m .len) e ≡ false → P
+  pub entry : mayEnter (m .len) e ≡ false → P
   pub character : charClear (drop (placeFor m e) (view m)) e ≡ false → P
   pub below : belowClear (view m) (placeFor m e) (placedFor m e initial given) ≡ false → P
   pub above : aboveClear (drop (placeFor m e) (view m)) (placedFor m e initial given) ≡ false → P
@@ -32,14 +32,14 @@ Dropped m e initial given = Fails m e initial given (insertIn m e initial given 
 
 -- each test holds
 pub record Clear (m : HintMap) (e : Edges) (initial : HintMap) (given : Bool) : Type 0 where
-  pub entry : enters (m .len) e ≡ true
+  pub entry : mayEnter (m .len) e ≡ true
   pub character : charClear (drop (placeFor m e) (view m)) e ≡ true
   pub below : belowClear (view m) (placeFor m e) (placedFor m e initial given) ≡ true
   pub above : aboveClear (drop (placeFor m e) (view m)) (placedFor m e initial given) ≡ true
 
 -- the edges of an outcome may be put at its place
 abbrev pub Fits : HintMap → Outcome → Type 0
-Fits m (outcome.Enters at e) = (at ≤ m .len) × (enters (m .len) e ≡ true)
+Fits m (outcome.Enters at e) = (at ≤ m .len) × (mayEnter (m .len) e ≡ true)
 Fits m outcome.Dropped = Unit {0}
 
 -- placed again or not, it differs on the device only
@@ -66,9 +66,9 @@ module _ (m : HintMap) (e : Edges) (initial : HintMap) (given : Bool) where
   drops =
       record {
         entry = λ t. rw t;
-        character = λ t. rw t (either (enters (m .len) e));
-        below = λ t. rw (t, either (charClear (drop at (view m)) e)) (either (enters (m .len) e));
-        above = λ t. rw (t, either (belowClear (view m) at p), either (charClear (drop at (view m)) e)) (either (enters (m .len) e));
+        character = λ t. rw t (either (mayEnter (m .len) e));
+        below = λ t. rw (t, either (charClear (drop at (view m)) e)) (either (mayEnter (m .len) e));
+        above = λ t. rw (t, either (belowClear (view m) at p), either (charClear (drop at (view m)) e)) (either (mayEnter (m .len) e));
       }
 
   -- what is not entered leaves the map
@@ -99,9 +99,9 @@ module _ (m : HintMap) (e : Edges) (initial : HintMap) (given : Bool) where
   cases : (Q : Outcome → Type 0) → Q outcome.Dropped → (Clear m e initial given → Q (outcome.Enters at p)) → Q (outcomeOf m e initial given)
   unfolding outcomeOf
   cases Q same put =
-      go (enters (m .len) e) refl (charClear (drop at (view m)) e) refl (belowClear (view m) at p) refl (aboveClear (drop at (view m)) p) refl
+      go (mayEnter (m .len) e) refl (charClear (drop at (view m)) e) refl (belowClear (view m) at p) refl (aboveClear (drop at (view m)) p) refl
     where
-      go : (a : Bool) → enters (m .len) e ≡ a → (b : Bool) → charClear (drop at (view m)) e ≡ b → (c : Bool) → belowClear (view m) at p ≡ c →
+      go : (a : Bool) → mayEnter (m .len) e ≡ a → (b : Bool) → charClear (drop at (view m)) e ≡ b → (c : Bool) → belowClear (view m) at p ≡ c →
           (d : Bool) → aboveClear (drop at (view m)) p ≡ d → Q (onlyIf a (onlyIf b (onlyIf c (onlyIf d (outcome.Enters at p)))))
       go true f true g true h true k = put (record { entry = f; character = g; below = h; above = k })
       go true f true g true h false k = same
@@ -120,7 +120,7 @@ module _ (m : HintMap) (e : Edges) (initial : HintMap) (given : Bool) where
 
   module _ (long : length (m .edges) ≡ 96) where
     -- the edges of the map with those put in
-    pub view-placed : enters (m .len) e ≡ true → view (putEdges m at p) ≡ take at (view m) ++ (edgesOf p ++ drop at (view m))
+    pub view-placed : mayEnter (m .len) e ≡ true → view (putEdges m at p) ≡ take at (view m) ++ (edgesOf p ++ drop at (view m))
     view-placed f = view-edges m at (place-below m _) long p (placed-enters m e initial given ∙ f)
 
     -- what is entered is what was asked for, at the place that 01 says

@@ -17,7 +17,7 @@ use Rattle.hintmap.specs.declared.insert.Edges.{Edges}
 use Rattle.hintmap.specs.declared.insert.Edges.the-variants.{One, Two}
 use Rattle.stems.specs.Edge.{noHint, isPairTop, pairTopK}
 use Rattle.hintmap.specs.Map.{newMap, invalidMap, validMap, view, leading, placeOf, countBy, ahead}
-use Rattle.hintmap.specs.Insert.{firstOf, edgesOf, enters, bars, charClear, putEdges, placeFor, placedFor, insertIn}
+use Rattle.hintmap.specs.Insert.{firstOf, edgesOf, mayEnter, bars, charClear, putEdges, placeFor, placedFor, insertIn}
 use Rattle.hintmap.specs.Stems.{height, Past, Stems, none, one, two, Made, Alike}
 use Rattle.hintmap.proofs.Tests.{both, neither}
 use Rattle.hintmap.proofs.Near.{place-below}
@@ -40,8 +40,8 @@ apart a b p q = go (lessF b a) refl
     go false e = absurd (not-same a b q (omega heights))
 
 -- what is put in, before a list that is above it
-front : (n : ℕ) (e : Edges) → Made e → enters n e ≡ true → (xs : List Hint) → Past (height (top e)) xs → Stems xs → Stems (edgesOf e ++ xs)
-unfolding Made enters top
+front : (n : ℕ) (e : Edges) → Made e → mayEnter n e ≡ true → (xs : List Hint) → Past (height (top e)) xs → Stems xs → Stems (edgesOf e ++ xs)
+unfolding Made mayEnter top
 front n (One x) s f xs p r = one s p r
 front n (Two b t) s f xs p r =
     let o : lessF (height t) (height b) ≡ false = not-true _ (both (not (lessF (height t) (height b))) (ltb n 95) f .0) in
@@ -71,7 +71,7 @@ past-put (Two b t) z es zero f l = l
 past-put (Two b t) z [] (suc at) f l = l
 past-put (Two b t) z (x ∷ xs) (suc at) f l = f
 
-module _ (n : ℕ) (e : Edges) (made : Made e) (fits : enters n e ≡ true) where
+module _ (n : ℕ) (e : Edges) (made : Made e) (fits : mayEnter n e ≡ true) where
   abbrev at : List Hint → ℕ
   at es = placeOf es (height (firstOf e))
 

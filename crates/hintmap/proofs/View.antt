@@ -10,14 +10,14 @@ use Rattle.stems.specs.declared.edge.Hint.{Hint}
 use Rattle.hintmap.specs.declared.map.HintMap.{HintMap}
 use Rattle.hintmap.specs.declared.insert.Edges.{Edges}
 use Rattle.hintmap.specs.Map.{view, putAt}
-use Rattle.hintmap.specs.Insert.{edgesOf, enters, putEdges}
+use Rattle.hintmap.specs.Insert.{edgesOf, mayEnter, putEdges}
 use Rattle.hintmap.proofs.Enter.{enters-room}
 
 -- the edges put at a place of a list
 abbrev pub put : List Hint → ℕ → Edges → List Hint
 put es at e = putAt es at (edgesOf e)
 
-module _ (m : HintMap) (at : ℕ) (l : at ≤ m .len) (r : length (m .edges) ≡ 96) (e : Edges) (f : enters (m .len) e ≡ true) where
+module _ (m : HintMap) (at : ℕ) (l : at ≤ m .len) (r : length (m .edges) ≡ 96) (e : Edges) (f : mayEnter (m .len) e ≡ true) where
   room : m .len + length (edgesOf e) ≤ 96
   room = enters-room (m .len) e f
 

@@ -33,9 +33,9 @@ edgesOf (One e) = e ∷ []
 edgesOf (Two b t) = b ∷ t ∷ []
 
 -- a pair is in order, and there is room
-unfoldable pub enters : ℕ → Edges → Bool
-enters n (One e) = ltb n 96
-enters n (Two b t) = not (lessF (t .«cs_coord») (b .«cs_coord»)) && ltb n 95
+unfoldable pub mayEnter : ℕ → Edges → Bool
+mayEnter n (One e) = ltb n 96
+mayEnter n (Two b t) = not (lessF (t .«cs_coord») (b .«cs_coord»)) && ltb n 95
 
 -- the edge x at the place stands in the way in character height
 unfoldable pub bars : Hint → Edges → Bool
@@ -57,7 +57,7 @@ abbrev pub middleOf : Edges → Fixed
 middleOf (One e) = e .«cs_coord»
 middleOf (Two b t) = midpointF (b .«cs_coord») (t .«cs_coord»)
 
--- a pair, plus and minus a width from a device height
+-- a pair, plus and minus half its width on the device from a device height
 abbrev pub plusMinus : Hint → Hint → Fixed → Fixed → Edges
 plusMinus b t d w = Two (atDevice b (subF d w)) (atDevice t (addF d w))
 
@@ -105,7 +105,7 @@ onlyIf false o = Dropped
 -- what an insertion comes to: the tests in their order, and the edges at their place where all hold
 unfoldable pub outcomeOf : HintMap → Edges → HintMap → Bool → Outcome
 outcomeOf m e initial given =
-    onlyIf (enters (m .len) e)
+    onlyIf (mayEnter (m .len) e)
     (onlyIf (charClear (drop (placeFor m e) (view m)) e)
     (onlyIf (belowClear (view m) (placeFor m e) (placedFor m e initial given))
     (onlyIf (aboveClear (drop (placeFor m e) (view m)) (placedFor m e initial given))

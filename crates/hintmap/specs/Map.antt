@@ -10,15 +10,15 @@ use Rattle.stems.specs.declared.edge.Hint.{Hint}
 use Rattle.hintmap.specs.declared.map.HintMap.{HintMap}
 use Rattle.stems.specs.Edge.{noHint}
 
--- a map with no edges
+-- a map with no edges, to be built
 abbrev pub newMap : Fixed → HintMap
 newMap s = record { edges = replicate 96 noHint; len = 0; «is_valid» = false; scale = s }
 
--- the map that is to be built anew
+-- the same map, to be built anew
 abbrev pub invalidMap : HintMap → HintMap
 invalidMap m = record { edges = m .edges; len = m .len; «is_valid» = false; scale = m .scale }
 
--- the map that is built
+-- the same map, built
 abbrev pub validMap : HintMap → HintMap
 validMap m = record { edges = m .edges; len = m .len; «is_valid» = true; scale = m .scale }
 
@@ -81,7 +81,7 @@ unfoldable pub ahead : (Hint → Bool) → List Hint → Bool
 ahead f [] = true
 ahead f (x ∷ xs) = not (f x)
 
--- nor is the edge directly before a place, if there is one
+-- the edge directly before a place, if there is one, is not one that f names
 unfoldable pub behind : (Hint → Bool) → List Hint → ℕ → Bool
 behind f es zero = true
 behind f es (suc i) = not (f (getD es i noHint))

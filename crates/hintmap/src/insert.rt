@@ -6,7 +6,7 @@ ghost use mathlib.Core.Path.{_≡_};
 ghost use mathlib.Core.Bool.{true, not, _&&_};
 ghost use Prim.Native.Nat.{_≤_};
 ghost use lib.ListN.{length};
-ghost use Rattle.hintmap.specs.Insert.{chosen, firstOf, edgesOf, enters, bars, tooHigh, under, middleOf, around, putEdges, outcomeOf, insertIn};
+ghost use Rattle.hintmap.specs.Insert.{chosen, firstOf, edgesOf, mayEnter, bars, tooHigh, under, middleOf, around, putEdges, outcomeOf, insertIn};
 
 // What is put in: one edge, or the two of a pair.
 pub enum Edges {
@@ -54,7 +54,7 @@ impl Edges {
 
     // Whether a pair is in order, and there is room.
     fn may_enter(self, len: usize) -> bool
-        ensures { λ r. ⌜ r ≡ enters len self ⌝ }
+        ensures { λ r. ⌜ r ≡ mayEnter len self ⌝ }
     {
         match self {
             Edges::One(_) => len < 96,
@@ -194,7 +194,7 @@ impl HintMap {
 
     // From `insert`: edges are put at a place, and those from there on go up.
     fn put(mut self, at: usize, e: Edges) -> HintMap
-        requires { ⌜ (at ≤ self .len) × (enters (self .len) e ≡ true) ⌝ }
+        requires { ⌜ (at ≤ self .len) × (mayEnter (self .len) e ≡ true) ⌝ }
         ensures { λ r. ⌜ r ≡ putEdges self at e ⌝ }
     {
         let n = e.count();

@@ -10,13 +10,13 @@ pub struct Point {
     pub y: Fixed,
 }
 
-// The most recent move, in character space.
+// The start of the open path, in character space.
 pub enum Start {
     Absent,
     At(Point),
 }
 
-// The most recent line, in character space and on the device.
+// The line that waits, in character space and on the device.
 pub enum Waiting {
     Absent,
     Line(Point, Point),

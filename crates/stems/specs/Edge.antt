@@ -120,7 +120,7 @@ shapeOf s =
     (cond (sameF (width s) (whole (negℤ (pos 20)))) (TopGhost (s .min))
     (cond (lessF (width s) ZERO) (Pair (s .max) (s .min)) (Pair (s .min) (s .max))))
 
--- the bottom edge (true) or the top edge of a shape; a ghost has no other
+-- the bottom edge (true) or the top edge of a shape; a ghost's other edge is absent
 unfoldable pub edgeOf : Shape → Bool → ℕ → Fixed → Hint
 edgeOf (BottomGhost h) true i s = hintAt GhostBottom h i s
 edgeOf (BottomGhost h) false i s = hintAt Absent ZERO i s

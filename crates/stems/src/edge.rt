@@ -64,7 +64,7 @@ impl StemHint {
 }
 
 impl Shape {
-    // From `Hint::setup`: the bottom edge or the top edge, before it is used. A ghost has only its own.
+    // From `Hint::setup`: the bottom edge or the top edge, whether or not the stem is used. A ghost has only its own.
     fn edge(self, bottom: bool, index: u8, scale: Fixed) -> Hint
         ensures { λ r. ⌜ r ≡ edgeOf self bottom index scale ⌝ }
     {

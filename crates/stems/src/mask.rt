@@ -23,7 +23,7 @@ impl HintMask {
         HintMask { bytes: [255; 12] }
     }
 
-    // Ports `HintMask::new`, with all stems active where that gives none.
+    // Ports `HintMask::new`; over twelve bytes, where that returns `None`, all stems are active.
     pub fn new(bytes: &[u8]) -> HintMask
         ensures { λ r. ⌜ r ≡ maskOf (now (bytes .entry)) ⌝ }
     {

@@ -92,12 +92,12 @@ module _ (s : List ℕ) where
   pub params-or-row : (out : List ℤ) → HeaderFine s → (firstOf (paramRows (rawAt s)) ≡ Ok) ⊎ ((a : Answer) × When s out a)
   params-or-row out h = by-scale (lessF (numberAt (rawAt s) 1) (fromBits (pos 1))) refl
     where
-      by-pairs : ScaleFine s → CountsFine s → (b : Bool) → eqb (rawAt s 3) (8 + (pairsIn (rawAt s) + pairsIn (rawAt s))) ≡ b → (firstOf (paramRows (rawAt s)) ≡ Ok) ⊎ ((a : Answer) × When s out a)
-      by-pairs c f true e = inl (fine-answer c f (eqb-true (rawAt s 3) (8 + (pairsIn (rawAt s) + pairsIn (rawAt s))) e))
-      by-pairs c f false e = inr (BadScript 3, pairs h c f (eqb-false (rawAt s 3) (8 + (pairsIn (rawAt s) + pairsIn (rawAt s))) e) refl)
+      by-pairs : ScaleFine s → CountsFine s → (b : Bool) → eqb (rawAt s 3) (8 + 2 * pairsIn (rawAt s)) ≡ b → (firstOf (paramRows (rawAt s)) ≡ Ok) ⊎ ((a : Answer) × When s out a)
+      by-pairs c f true e = inl (fine-answer c f (eqb-true (rawAt s 3) (8 + 2 * pairsIn (rawAt s)) e))
+      by-pairs c f false e = inr (BadScript 3, pairs h c f (eqb-false (rawAt s 3) (8 + 2 * pairsIn (rawAt s)) e) refl)
 
       by-counts : ScaleFine s → FirstFine 4 ⊎ Over 4 → (firstOf (paramRows (rawAt s)) ≡ Ok) ⊎ ((a : Answer) × When s out a)
-      by-counts c (inl f) = by-pairs c (λ j l m. f j l (omega arith)) (eqb (rawAt s 3) (8 + (pairsIn (rawAt s) + pairsIn (rawAt s)))) refl
+      by-counts c (inl f) = by-pairs c (λ j l m. f j l (omega arith)) (eqb (rawAt s 3) (8 + 2 * pairsIn (rawAt s))) refl
       by-counts c (inr o) = inr (BadBlues (o .place), record { header = h; scale = c; least = o .least; most = omega arith; count = o .count; before = o .before })
 
       by-scale : (b : Bool) → lessF (numberAt (rawAt s) 1) (fromBits (pos 1)) ≡ b → (firstOf (paramRows (rawAt s)) ≡ Ok) ⊎ ((a : Answer) × When s out a)

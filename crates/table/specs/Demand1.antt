@@ -2,7 +2,7 @@
 use mathlib.Core.Path.{_≡_}
 use mathlib.Core.Bool.{Bool, true}
 use mathlib.Core.List.{List, [], _∷_, _++_}
-use Prim.Native.Nat.{ℕ, _+_, _-_, _≤_, _<_}
+use Prim.Native.Nat.{ℕ, _+_, _-_, _≤_, _<_, _*_}
 use lib.IntN.{ℤ, pos}
 use lib.ListN.{length, take, drop}
 use lib.Signed.{_≤ℤ_, _<ℤ_}
@@ -33,7 +33,7 @@ abbrev pub CountsFine : List ℕ → Type 0
 CountsFine s = (j : ℕ) → 12 ≤ j → j ≤ 15 → rawAt s j ≤ 7
 
 abbrev pub PairsFine : List ℕ → Type 0
-PairsFine s = rawAt s 3 ≡ 8 + (pairsIn (rawAt s) + pairsIn (rawAt s))
+PairsFine s = rawAt s 3 ≡ 8 + 2 * pairsIn (rawAt s)
 
 -- all of it, and every command
 abbrev pub Checked : List ℕ → Type 0

@@ -1,6 +1,8 @@
 -- Words of a script (01, "The script"): four bytes, the least first.
+use mathlib.Core.Bool.{Bool}
 use mathlib.Core.List.{List}
-use Prim.Native.Nat.{ℕ, _+_, _*_}
+use Prim.Native.Nat.{ℕ, _+_, _*_, _^_}
+use lib.Dec.{leb}
 use lib.ListN.{getD}
 use lib.IntN.{ℤ}
 use mir.Syntax.{w32}
@@ -16,6 +18,10 @@ rawAt s i =
 -- 32 bits read as signed
 unfoldable pub signed : ℕ → ℤ
 signed n = toZ w32 n
+
+-- which are negative from 2^31 on
+abbrev pub negative : ℕ → Bool
+negative n = leb (2 ^ 31) n
 
 -- the rest is said of words, whatever gives word i: a script's bytes, by rawAt, or a list of words
 -- word i, signed

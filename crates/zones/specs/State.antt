@@ -30,7 +30,7 @@ emBox p =
     isOne (p .«language_group») && (eqb (p .blues .count) 0 || (eqb (p .blues .count) 2
     && (whollyBelow (whole (negℤ (pos 120))) (getD (p .blues .pairs) 0 noBlue) && whollyAbove (whole (pos 880)) (getD (p .blues .pairs) 1 noBlue))))
 
--- ---- step 3: blue scale is at most 1.0/(the greatest height), where that is above 0
+-- ---- step 3: blue scale is at most 1.0/(the greatest height), where that height is above 0
 unfoldable pub clampedScale : Fixed → Fixed → Fixed
 clampedScale bs g = cond (lessF ZERO g && lessF (divF ONE g) bs) (divF ONE g) bs
 
@@ -46,8 +46,8 @@ boostOf s bs = cond (suppresses s bs) (minF (subF (fromBits (pos 39322)) (mulDiv
 abbrev pub keptOf : HintParams → List BlueZone
 keptOf p = kept (p .blues) (p .«other_blues»)
 
-abbrev pub scaleOf : HintParams → Fixed
-scaleOf p = clampedScale (p .«blue_scale») (greatestFrom ZERO (keptOf p))
+abbrev pub blueScaleOf : HintParams → Fixed
+blueScaleOf p = clampedScale (p .«blue_scale») (greatestFrom ZERO (keptOf p))
 
 -- steps 2 and 5, of one zone
 abbrev pub finished : HintParams → Fixed → Fixed → BlueZone → BlueZone
@@ -71,7 +71,7 @@ stateWith p s bs suppress em boost zs =
 abbrev pub stateBy : Bool → HintParams → Fixed → HintState
 stateBy true p s = stateWith p s (p .«blue_scale») false true ZERO []
 stateBy false p s =
-    stateWith p s (scaleOf p) (suppresses s (scaleOf p)) false (boostOf s (scaleOf p)) (map (finished p s (boostOf s (scaleOf p))) (keptOf p))
+    stateWith p s (blueScaleOf p) (suppresses s (blueScaleOf p)) false (boostOf s (blueScaleOf p)) (map (finished p s (boostOf s (blueScaleOf p))) (keptOf p))
 
 unfoldable pub stateOf : HintParams → Fixed → HintState
 stateOf p s = stateBy (emBox p) p s

@@ -56,7 +56,7 @@ bluesZones (b ∷ bs) = zoneOf true b ∷ map (zoneOf false) bs
 unfoldable pub kept : Blues → Blues → List BlueZone
 kept blues others = bluesZones (sift (listOf blues)) ++ map (zoneOf true) (sift (take 5 (listOf others)))
 
--- the greatest height of some zones, or g if that is greater
+-- for step 3: the greatest height of some zones, or g if that is greater
 unfoldable pub greatestFrom : Fixed → List BlueZone → Fixed
 greatestFrom g [] = g
 greatestFrom g (z ∷ zs) = greatestFrom (maxF g (subF (z .«cs_top_edge») (z .«cs_bottom_edge»))) zs
@@ -86,7 +86,7 @@ unfoldable pub nearestFrom : Fixed → Fixed → Nearest → List Fixed → Near
 nearestFrom flat limit n [] = n
 nearestFrom flat limit n (x ∷ xs) = cond (sameF (n .diff) ZERO) n (nearestFrom flat limit (nearer flat limit n x) xs)
 
--- before it, a flat edge's own
+-- before the search: the flat edge itself, at the greatest distance
 abbrev pub unmoved : Fixed → Nearest
 unmoved flat = record { edge = flat; diff = MAX }
 
@@ -108,7 +108,7 @@ withFlat z flat =
       «ds_flat_edge» = z .«ds_flat_edge»;
     }
 
--- the flat edge moves to the nearest of those
+-- the flat edge moves to the nearest of those that count, or stays
 unfoldable pub movedFlat : Blues → Blues → Fixed → BlueZone → BlueZone
 movedFlat others blues limit z = withFlat z (familyNearest (z .«is_bottom») others blues (z .«cs_flat_edge») limit .edge)
 

@@ -166,7 +166,7 @@ impl Zones {
         zones
     }
 
-    // From `build_zones`: a pair is kept unless its height is negative. The first zone of all is a bottom zone, and so is one of the other blues.
+    // From `build_zones`: a pair is kept unless its height is negative. The first zone of all is a bottom zone, and so is every zone of the other blues.
     pub(crate) fn keep(self, pair: Blue, other: bool) -> Zones
         requires { ⌜ self .count < 12 ⌝ }
         ensures { λ r. ⌜ r ≡ keptIn other self pair ⌝ }

@@ -14,7 +14,7 @@ pub enum Held {
     Free,
 }
 
-// A stem's edges after capture, and whether they were captured.
+// A stem's edges after capture, and whether they hold: captured now, or locked before.
 pub struct Captured {
     pub captured: bool,
     pub bottom: Hint,

@@ -1,7 +1,7 @@
 -- `Edges::may_enter` meets its contract: each answer by the case and the test that led to it. Assumes nothing.
 use borrow.Author.Needs.{needs}
 use mathlib.Core.Path.{sym}
-use Rattle.hintmap.specs.Insert.{enters}
+use Rattle.hintmap.specs.Insert.{mayEnter}
 use Rattle.hintmap.proofs.insert.Edges.may_enter.Statement.{statement}
 use Rattle.hintmap.proofs.insert.Edges.may_enter.Tie as tie
 
@@ -15,15 +15,15 @@ less-requires : tie.Need-less-requires
 less-requires c κs = search needs
 
 returns : tie.Need-returns
-unfolding enters
+unfolding mayEnter
 returns c = rw (c .before .before .before .self .given .1, sym (c .before .less .ensures), c .if1 .taken)
 
 returns-2 : tie.Need-returns-2
-unfolding enters
+unfolding mayEnter
 returns-2 c = rw (c .enum-told .given .1)
 
 returns-3 : tie.Need-returns-3
-unfolding enters
+unfolding mayEnter
 returns-3 c = rw (c .before .before .before .self .given .1, sym (c .before .less .ensures), c .if1 .left)
 
 pub may-enter-spec : {M : Type 1} → statement M

@@ -15,7 +15,7 @@ use Rattle.hintmap.specs.declared.map.HintMap.{HintMap}
 use Rattle.hintmap.specs.declared.insert.Edges.{Edges}
 use Rattle.hintmap.specs.declared.insert.Outcome.the-variants.{Enters}
 use Rattle.hintmap.specs.Map.{view, placeOf, mapOf}
-use Rattle.hintmap.specs.Insert.{enters, bars, under, tooHigh, around, again, placedBy, charClear, belowClear, aboveClear, placeFor, placedFor, outcomeOf}
+use Rattle.hintmap.specs.Insert.{mayEnter, bars, under, tooHigh, around, again, placedBy, charClear, belowClear, aboveClear, placeFor, placedFor, outcomeOf}
 use Rattle.hintmap.proofs.Near.{Asked, asked, behind-at, behind-none}
 use Rattle.hintmap.proofs.Outcome.{drops, passed}
 use Rattle.hintmap.proofs.map.HintMap.outcome.Statement.{statement}
@@ -46,7 +46,7 @@ module _ (c : tie.Left-loop Inv-loop μ-loop) where
   abbrev at : ℕ
   at = c .before .loop .at
 
-  entry : enters (map .len) edges ≡ true
+  entry : mayEnter (map .len) edges ≡ true
   entry =
       let o = c .before .before .before in
       sym (o .before .may-enter .ensures) ∙ not-false _ (o .if1 .left)

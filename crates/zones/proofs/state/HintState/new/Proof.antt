@@ -7,7 +7,7 @@ use Rattle.fixed.specs.declared.Fixed.{Fixed}
 use Rattle.zones.specs.declared.blues.Zones.{Zones}
 use Rattle.zones.specs.declared.state.HintParams.{HintParams}
 use Rattle.zones.specs.Zones.{packed, eachIn, filled, movedFlat, deviceFlat}
-use Rattle.zones.specs.State.{keptOf, scaleOf, clampedScale, boostOf, suppresses, finished, stateOf}
+use Rattle.zones.specs.State.{keptOf, blueScaleOf, clampedScale, boostOf, suppresses, finished, stateOf}
 use Rattle.zones.proofs.Keep.{kept-length, each-filled}
 use Rattle.zones.proofs.state.HintState.new.Statement.{statement}
 use Rattle.zones.proofs.state.HintState.new.Tie as tie
@@ -39,10 +39,10 @@ module _ (c : tie.After-boost-at) where
   abbrev begin : tie.Start
   begin = c .before .before .before .before .before .before .before .before
 
-  most : c .before .clamped .result ≡ scaleOf (begin .args .params)
+  most : c .before .clamped .result ≡ blueScaleOf (begin .args .params)
   most = c .before .clamped .ensures ∙ ap (λ (q : Zones). clampedScale (begin .args .params .«blue_scale») (q .greatest)) (c .before .before .kept .ensures)
 
-  boost : c .boost-at .result ≡ boostOf (begin .args .scale) (scaleOf (begin .args .params))
+  boost : c .boost-at .result ≡ boostOf (begin .args .scale) (blueScaleOf (begin .args .params))
   boost = c .boost-at .ensures ∙ ap (boostOf (begin .args .scale)) most
 
 module _ (c : tie.After-finish) where
@@ -56,7 +56,7 @@ module _ (c : tie.After-finish) where
   at = begin made .args .scale
 
   abbrev by : Fixed
-  by = boostOf at (scaleOf given)
+  by = boostOf at (blueScaleOf given)
 
   done : c .finish .result ≡ eachIn (finished given at by) (packed (keptOf given))
   done =
@@ -85,7 +85,7 @@ unfolding stateOf
 returns-2 c =
     let f = c .before .before in
     let e = made f .before .before .before in
-    let suppress : c .less .result ≡ suppresses (at f) (scaleOf (given f)) = c .less .ensures ∙ ap (suppresses (at f)) (most (made f)) in
+    let suppress : c .less .result ≡ suppresses (at f) (blueScaleOf (given f)) = c .less .ensures ∙ ap (suppresses (at f)) (most (made f)) in
     rw (sym (e .before .em-box .ensures), e .if1 .left) (cc (most (made f), boost (made f), list f, count f, suppress))
 
 pub new-spec : {M : Type 1} → statement M
