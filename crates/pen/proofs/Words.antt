@@ -15,7 +15,7 @@ use Rattle.pen.specs.declared.strokes.Start.the-variants.{At, Absent as 
 use Rattle.pen.specs.declared.strokes.Waiting.{Waiting}
 use Rattle.pen.specs.declared.strokes.Waiting.the-variants.{Line, Absent as NoLine}
 use Rattle.pen.specs.declared.strokes.Pen.{Pen}
-use Rattle.pen.specs.Records.{emitted, pushed, wordsOf, pickWords, written}
+use Rattle.pen.specs.Records.{emitted, pushed, wordsOf, pickWords}
 use Rattle.pen.specs.Strokes.{samePoint, pointWords, closeBy, waitingWords, closingWords, flushWords, moveOf, lineOf, curveOf, finishOf}
 
 -- one store more at the start of what was lent

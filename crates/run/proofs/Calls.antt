@@ -21,7 +21,6 @@ use Rattle.hints.proofs.Kept.{kept-ready}
 use Rattle.hints.proofs.Steps.{ready-idle, ready-twice, DrewWords, DrewNothing}
 use Rattle.drawing.specs.declared.calls.Drawing.{Drawing}
 use Rattle.drawing.specs.Calls.{Call, draw, readyFor, hintsOf, still, strokeOf}
-use Rattle.words.specs.declared.answer.Answer.{Answer}
 use Rattle.words.specs.declared.answer.Answer.the-variants.{Ok, NoRoom}
 use Rattle.run.specs.Room.{Step}
 use Rattle.run.specs.Run.{Asked, stepsOf, wantsMap}

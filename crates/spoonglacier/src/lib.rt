@@ -1,5 +1,4 @@
 // The function that a program in C links; include/spoonglacier.h declares it.
-ghost use mathlib.Core.Path.{_≡_};
 ghost use Rattle.script.specs.Script.{scriptOf};
 ghost use Rattle.spoonglacier.specs.Exported.{Returned};
 

@@ -1,26 +1,23 @@
 -- Demand 3 of scripts: a script that passes all tests opens a drawing, and all drawings of its run are such as demand 3 speaks of, so their maps are sound. Assumes nothing.
-use mathlib.Core.Path.{_≡_, refl, sym, ap, subst, _∙_}
-use mathlib.Core.Bool.{Bool, true, false}
+use mathlib.Core.Path.{_≡_, refl, ap, subst, _∙_}
+use mathlib.Core.Bool.{true, false}
 use mathlib.Core.List.{List, [], _∷_, _++_}
 use Prim.Native.Nat.{ℕ}
-use lib.Dec.{leb}
 use lib.IntN.{pos}
 use borrow.Author.Tests.{le-leb}
-use Rattle.fixed.specs.declared.Fixed.{Fixed}
 use Rattle.fixed.specs.Fixed.{fromBits, lessF}
 use Rattle.zones.specs.declared.state.HintParams.{HintParams}
 use Rattle.zones.specs.declared.state.HintState.{HintState}
-use Rattle.zones.specs.State.{Counted, stateOf}
+use Rattle.zones.specs.State.{Counted}
 use Rattle.drawing.specs.declared.calls.Drawing.{Drawing}
 use Rattle.drawing.specs.declared.opening.Opening.the-variants.{Ok as Opens}
 use Rattle.drawing.specs.declared.opening.Opened.{Opened}
 use Rattle.drawing.specs.Calls.{nextOf, wordsFor}
-use Rattle.drawing.specs.Open.{countsFit, newDrawing, openBy, openOf}
+use Rattle.drawing.specs.Open.{countsFit, newDrawing, openOf}
 use Rattle.drawing.specs.Reached.{Reached, opened, Sound}
 use Rattle.drawing.proofs.Demand3.{demand-3, reached-next}
 use Rattle.words.specs.declared.answer.Answer.the-variants.{Ok}
 use Rattle.words.specs.Words.{rawAt, numberAt}
-use Rattle.words.specs.Answers.{firstOf}
 use Rattle.words.proofs.Rows.{none-holds}
 use Rattle.header.specs.Params.{paramRows, paramsOf}
 use Rattle.header.proofs.Fine.{counted, params-refusing}

@@ -16,7 +16,7 @@ use Rattle.drawing.specs.declared.calls.After.{After}
 use Rattle.drawing.specs.declared.opening.Opened.{Opened}
 use Rattle.drawing.specs.Calls.{Call, wordsFor, afterBy, Called}
 use Rattle.drawing.specs.Open.{countsFit, openBy, openOf}
-use Rattle.table.specs.Lone.{callNumber, callWords, CallEnds, fits, refused, openNumber, Blank, OpenEnds, scale, counts, opened}
+use Rattle.table.specs.Lone.{callNumber, callWords, CallEnds, fits, refused, openNumber, OpenEnds, scale, counts, opened}
 
 -- every outcome of a lone call ends in one of the two ways
 pub call-ends : {st : HintState} {d : Drawing} {c : Call} {out : List ℤ} {said : After} {left : List ℤ} → Called st d c out said left → CallEnds st d c out said left

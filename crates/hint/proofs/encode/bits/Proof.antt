@@ -1,6 +1,4 @@
 -- `bits` gives a word's 32 bits. Assumes nothing.
-use mathlib.Core.Path.{_≡_}
-use mathlib.Core.Bool.{true, false}
 use Prim.Native.Nat.{_-_, _<_}
 use native.Mathlib.Omega.{arith}
 use mir.Syntax.{w32}
