@@ -13,7 +13,7 @@ use Rattle.fixed.specs.Fixed.{lessF}
 use Rattle.stems.specs.declared.edge.Hint.{Hint}
 use Rattle.hintmap.specs.declared.map.HintMap.{HintMap}
 use Rattle.stems.specs.Edge.{noHint}
-use Rattle.hintmap.specs.Map.{view, leading, placeOf, countBy, ahead, behind}
+use Rattle.hintmap.specs.Map.{view, leading, placeOf, countBy, clearAhead, clearBehind}
 use Rattle.hintmap.proofs.map.HintMap.{the-type}
 
 -- the array of a map is whole, as a function knows it of an argument
@@ -37,8 +37,8 @@ module _ (m : HintMap) (held : Held m) (fits : m .len ≤ 96) (at : ℕ) where
 
 -- a test of the edges from a place on, in the words of code that asks the edge there and has the answer r
 pub record Asked (m : HintMap) (f : Hint → Bool) : Type 0 where
-  pub clear : (at : ℕ) {r : Bool} → at < m .len → r ≡ f (getD (m .edges) at noHint) → not r ≡ ahead f (drop at (view m))
-  pub none : (at : ℕ) → m .len ≤ at → true ≡ ahead f (drop at (view m))
+  pub clear : (at : ℕ) {r : Bool} → at < m .len → r ≡ f (getD (m .edges) at noHint) → not r ≡ clearAhead f (drop at (view m))
+  pub none : (at : ℕ) → m .len ≤ at → true ≡ clearAhead f (drop at (view m))
   -- k edges passed, and those that lead from the place: one more is passed, or no more are
   pub passes : (k at : ℕ) {r : Bool} → at < m .len → r ≡ f (getD (m .edges) at noHint) → not r ≡ false →
       k + leading f (drop at (view m)) ≡ k + 1 + leading f (drop (at + 1) (view m))
@@ -46,7 +46,7 @@ pub record Asked (m : HintMap) (f : Hint → Bool) : Type 0 where
   pub ends : (k at : ℕ) → m .len ≤ at → k + leading f (drop at (view m)) ≡ k
 
 pub asked : (m : HintMap) → Held m → m .len ≤ 96 → (f : Hint → Bool) → Asked m f
-unfolding ahead leading
+unfolding clearAhead leading
 asked m held fits f =
     record {
       clear = λ at l e. rw (from m held fits at l, e);
@@ -58,16 +58,16 @@ asked m held fits f =
 
 -- the edge before a place
 module _ (f : Hint → Bool) where
-  pub behind-at : (es : List Hint) (n at : ℕ) {r : Bool} → 0 < at → at ≤ n → r ≡ f (getD es (at - 1) noHint) → not r ≡ behind f (take n es) at
-  unfolding behind
+  pub behind-at : (es : List Hint) (n at : ℕ) {r : Bool} → 0 < at → at ≤ n → r ≡ f (getD es (at - 1) noHint) → not r ≡ clearBehind f (take n es) at
+  unfolding clearBehind
   behind-at es n zero p l e = absurd (omega arith)
   behind-at es n (suc at) p l e =
       let k : suc at - 1 ≡ at = omega arith in
       let h : at < n = omega arith in
       rw (getD-take n es at noHint h) (ap not (rw k at e))
 
-  pub behind-none : (es : List Hint) (at : ℕ) → at ≤ 0 → true ≡ behind f es at
-  unfolding behind
+  pub behind-none : (es : List Hint) (at : ℕ) → at ≤ 0 → true ≡ clearBehind f es at
+  unfolding clearBehind
   behind-none es zero l = refl
   behind-none es (suc at) l = absurd (omega arith)
 

@@ -16,7 +16,7 @@ use Rattle.hintmap.specs.declared.map.HintMap.{HintMap}
 use Rattle.hintmap.specs.declared.insert.Edges.{Edges}
 use Rattle.hintmap.specs.declared.insert.Edges.the-variants.{One, Two}
 use Rattle.stems.specs.Edge.{noHint, isPairTop, pairTopK}
-use Rattle.hintmap.specs.Map.{newMap, invalidMap, validMap, view, leading, placeOf, countBy, ahead}
+use Rattle.hintmap.specs.Map.{newMap, invalidMap, validMap, view, leading, placeOf, countBy, clearAhead}
 use Rattle.hintmap.specs.Insert.{firstOf, edgesOf, mayEnter, bars, charClear, putEdges, placeFor, placedFor, insertIn}
 use Rattle.hintmap.specs.Stems.{height, Past, Stems, none, one, two, Made, Alike}
 use Rattle.hintmap.proofs.Tests.{both, neither}
@@ -80,11 +80,11 @@ module _ (n : ℕ) (e : Edges) (made : Made e) (fits : mayEnter n e ≡ true) wh
 
   -- before an edge that is not below it and does not bar it
   before : (x : Hint) (xs : List Hint) → lessF (height x) (height (firstOf e)) ≡ false → Free (x ∷ xs) → Stems (x ∷ xs) → Stems (edgesOf e ++ (x ∷ xs))
-  unfolding Past ahead
+  unfolding Past clearAhead
   before x xs q c r = front n e made fits (x ∷ xs) (above e x q (not-true (bars x e) c)) r
 
   stems-put : {es : List Hint} → Stems es → Free (drop (at es) es) → Stems (put es (at es) e)
-  unfolding leading Past ahead
+  unfolding leading Past clearAhead
   stems-put none c = front n e made fits [] tt none
   stems-put (one {x} {xs} s f r) c = go (lessF (height x) (height (firstOf e))) refl (λ k. stems-put r k) c
     where

@@ -13,7 +13,7 @@ use Rattle.hintmap.specs.declared.insert.Edges.the-variants.{One, Two}
 use Rattle.hintmap.specs.declared.insert.Outcome.{Outcome}
 use Rattle.hintmap.specs.declared.insert.Outcome.the-variants.{Enters, Dropped}
 use Rattle.stems.specs.Edge.{isValid, isPairTop, atDevice}
-use Rattle.hintmap.specs.Map.{view, placeOf, putIn, mapOf, ahead, behind}
+use Rattle.hintmap.specs.Map.{view, placeOf, putIn, mapOf, clearAhead, clearBehind}
 
 abbrev pub chosenBy : Bool → Bool → Hint → Hint → Edges
 chosenBy false v b t = One t
@@ -76,13 +76,13 @@ placedBy false es s₀ s e = e
 
 -- the tests of the neighbours: the edge at the place, in character height and on the device, and the edge before it
 abbrev pub charClear : List Hint → Edges → Bool
-charClear es e = ahead (λ (x : Hint). bars x e) es
+charClear es e = clearAhead (λ (x : Hint). bars x e) es
 
 abbrev pub aboveClear : List Hint → Edges → Bool
-aboveClear es e = ahead (λ (x : Hint). tooHigh x e) es
+aboveClear es e = clearAhead (λ (x : Hint). tooHigh x e) es
 
 abbrev pub belowClear : List Hint → ℕ → Edges → Bool
-belowClear es at e = behind (λ (x : Hint). under x e) es at
+belowClear es at e = clearBehind (λ (x : Hint). under x e) es at
 
 -- put at a place of a map
 unfoldable pub putEdges : HintMap → ℕ → Edges → HintMap

@@ -77,11 +77,11 @@ mapOf (e ∷ es) s h =
 -- ---- the tests beside a place
 
 -- the first edge of the list, if there is one, is not one that f names
-unfoldable pub ahead : (Hint → Bool) → List Hint → Bool
-ahead f [] = true
-ahead f (x ∷ xs) = not (f x)
+unfoldable pub clearAhead : (Hint → Bool) → List Hint → Bool
+clearAhead f [] = true
+clearAhead f (x ∷ xs) = not (f x)
 
 -- the edge directly before a place, if there is one, is not one that f names
-unfoldable pub behind : (Hint → Bool) → List Hint → ℕ → Bool
-behind f es zero = true
-behind f es (suc i) = not (f (getD es i noHint))
+unfoldable pub clearBehind : (Hint → Bool) → List Hint → ℕ → Bool
+clearBehind f es zero = true
+clearBehind f es (suc i) = not (f (getD es i noHint))
