@@ -84,6 +84,7 @@ fine-new : (st : HintState) → st .«zone_count» ≤ 12 → Fine st (newHints 
 fine-new st z = record { kept = kept-new st (st .scale) z; initial = new-good (st .scale); map = new-good (st .scale); initialScale = refl; scale = refl }
 
 module _ (st : HintState) (h : Hints) (f : Fine st h) where
+  -- the initial map, which is made if there is none
   initial-by : (b : Bool) → (Good (initialBy b st h .initial)) × (initialBy b st h .initial .scale ≡ st .scale)
   initial-by true = (f .initial, f .initialScale)
   initial-by false = (initial-good st (h .stems), initial-scale st (h .stems))

@@ -82,6 +82,7 @@ fn table(name: &[u8], file: i32) -> Tally {
     tally
 }
 
+// Says so where the file does not end here.
 fn end(file: i32) {
     let mut byte = [0u8; 1];
     if read_full(file, &mut byte) != 0 {

@@ -21,11 +21,14 @@ fn next_number() -> i32 {
 }
 
 // Reads the next row, and answers how many places it takes: one for the count, and one for each number. It takes none if
-// it has more numbers than there is place for.
+// it has no numbers, as past the input's end, or more than there is place for.
 pub fn next_row(row: &mut [i32]) -> usize
     ensures { λ r. ⌜ r ≤ length (now (row .exit)) ⌝ }
 {
     let count = next_count();
+    if count == 0 {
+        return 0;
+    }
     if row.len() <= count {
         return 0;
     }

@@ -14,7 +14,7 @@ pub enum Held {
     Free,
 }
 
-// A stem's edges after capture, and whether they hold: captured now, or locked before.
+// A stem's edges after capture, and whether they were captured, or locked before it.
 pub struct Captured {
     pub captured: bool,
     pub bottom: Hint,

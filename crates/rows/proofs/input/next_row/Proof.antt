@@ -18,6 +18,9 @@ next-count-requires c κs = search needs
 returns : tie.Need-returns Inv-loop μ-loop
 returns c = search needs
 
+returns-2 : tie.Need-returns-2 Inv-loop μ-loop
+returns-2 c = search needs
+
 add-end : tie.Need-add-end Inv-loop μ-loop
 add-end c = search needs
 
@@ -45,8 +48,8 @@ loop-again c = search needs
 same-length : tie.Need-same-length Inv-loop μ-loop
 same-length c = search needs
 
-returns-2 : tie.Need-returns-2 Inv-loop μ-loop
-returns-2 c = search needs
+returns-3 : tie.Need-returns-3 Inv-loop μ-loop
+returns-3 c = search needs
 
 pub next-row-spec : {M : Type 1} → statement M
 next-row-spec =
@@ -56,6 +59,7 @@ next-row-spec =
     μ-loop
     next-count-requires
     returns
+    returns-2
     add-end
     loop-holds
     next-number-requires
@@ -65,4 +69,4 @@ next-row-spec =
     loop-less
     loop-again
     same-length
-    returns-2)
+    returns-3)
