@@ -3,12 +3,12 @@
 use mathlib.Core.Path.{_≡_, refl, sym, ap, _∙_}
 use mathlib.Core.Bool.{Bool, true, false}
 use Prim.Native.Nat.{ℕ, suc, _+_, _-_, _*_, _/_, _%_, _^_, _<_}
-use native.Mathlib.Nat.{add-mul, suc-mul, mul-le-mul-right, mod-lt, mod-le, mod-eq-of-lt}
+use native.Mathlib.Nat.{add-mul, suc-mul, mul-le-mul-right, mod-lt, mod-le, mod-eq-of-lt, add-mod, add-mul-mod-self-right}
 use native.Mathlib.Omega.{arith}
 use lib.Arith.{digits-mod}
 use lib.Bits.{bitAnd, and-mask, and-high}
 use lib.Dec.{ltb}
-use lib.IntN.{ℤ, pos, negsuc}
+use lib.IntN.{ℤ, pos, negsuc, _+ℤ_, _-ℤ_}
 use lib.Pow.{pow-pos, pow-add, split, shr-lt, recompose}
 use borrow.Author.Tests.{ltb-true, ltb-false}
 use mir.Syntax.{Width, w32, w64}
@@ -16,8 +16,8 @@ use mir.Val.{SFits, bits, hbits, toZ, ofZ, sel}
 use lib.Signed.{mag}
 use mir.ValLaws.{half-full, bits-suc}
 use mir.Facts.{toZ-ofZ, toZ-pos, toZ-neg, fits-ofZ, sfits-widen, sfits-toZ, fits-of-lt}
-use Rattle.fixed.specs.Whole.{lowBits, clearLow, wrap32}
-use Rattle.fixed.proofs.Ints.{ints, up, dn, of-sub}
+use Rattle.fixed.specs.Whole.{lowBits, clearLow, bitsOf, signed, wrap32}
+use Rattle.fixed.proofs.Ints.{ints, up, dn, of-add, of-sub, sub-fits}
 
 -- 2^(j + k) − (n + 1) has the low k bits 2^k − (n % 2^k + 1)
 turned : (j k n : ℕ) → n < 2 ^ (j + k) → (2 ^ (j + k) - suc n) % 2 ^ k ≡ 2 ^ k - suc (n % 2 ^ k)
@@ -79,7 +79,7 @@ module _ {w : Width} (i k : ℕ) (e : i + k ≡ hbits w) where
 -- ---- what 32 bits hold
 -- a number that fits does not wrap
 pub wrap-id : (z : ℤ) → SFits w32 z → wrap32 z ≡ z
-unfolding wrap32
+unfolding wrap32 signed
 wrap-id z h = ap (toZ w32) (whole-low z h) ∙ toZ-ofZ h
 
 pub low-lt : (k : ℕ) (z : ℤ) → lowBits k z < 2 ^ k
@@ -89,7 +89,7 @@ low-lt k (negsuc n) = omega (arith, pow-pos k)
 
 -- what is wrapped fits
 pub wrap-fits : (z : ℤ) → SFits w32 (wrap32 z)
-unfolding wrap32
+unfolding wrap32 signed
 wrap-fits z = sfits-toZ (fits-of-lt (low-lt 32 z))
 
 -- the low 32 bits n, read as signed, in naturals
@@ -108,7 +108,7 @@ of-low (negsuc n) h = omega arith
 
 -- a wrapped number in naturals, for `omega`
 pub of-wrap : (z : ℤ) → SFits w64 z → up (wrap32 z) + 2 ^ 31 ≡ (up z + (2 ^ 64 + 2 ^ 31) - dn z) % 2 ^ 32 + dn (wrap32 z)
-unfolding wrap32
+unfolding wrap32 signed
 of-wrap z h = omega (ints, of-low z h, of-toZ (lowBits 32 z) (low-lt 32 z))
 
 -- an i32 fits an i64
@@ -122,3 +122,23 @@ widened z h = rw (toZ-ofZ h) (toZ-ofZ (wide h))
 -- what a call hands back of a signed number: the machine's reading of its bits is the number
 pub read : (w : Width) (z : ℤ) → mag z < 2 ^ hbits w → toZ w (ofZ w z) ≡ z
 read w z h = toZ-ofZ (record { sfits = h })
+
+-- ---- sums of low bits
+-- the low bits of two numbers, summed, have the low bits of the sum
+pub low-add : (a b : ℤ) → SFits w64 a → SFits w64 b → SFits w64 (a +ℤ b) → (bitsOf a + bitsOf b) % 2 ^ 32 ≡ bitsOf (a +ℤ b)
+low-add a b f g h =
+    let x = up a + 2 ^ 64 - dn a in
+    let y = up b + 2 ^ 64 - dn b in
+    let s = up (a +ℤ b) + 2 ^ 64 - dn (a +ℤ b) in
+    let e : x + y ≡ s + 2 ^ 32 * 2 ^ 32 = omega (ints, of-add a b) in
+    rw (of-low a f, of-low b g, of-low (a +ℤ b) h) (sym (add-mod x y (2 ^ 32)) ∙ ap (λ (n : ℕ). n % 2 ^ 32) e ∙ add-mul-mod-self-right s (2 ^ 32) (2 ^ 32))
+
+cancel : (x y k : ℕ) → x < 2 ^ 32 → y < 2 ^ 32 → (x + k) % 2 ^ 32 ≡ (y + k) % 2 ^ 32 → x ≡ y
+cancel x y k h l e = omega arith
+
+-- what is added to the low bits of b to give those of a are the low bits of the difference
+pub low-sub : (a b : ℤ) (r : ℕ) → SFits w32 a → SFits w32 b → r < 2 ^ 32 → (r + bitsOf b) % 2 ^ 32 ≡ bitsOf a → r ≡ bitsOf (a -ℤ b)
+low-sub a b r f g h e =
+    let d = a -ℤ b in
+    let back : d +ℤ b ≡ a = omega (ints, of-sub a b, of-add d b) in
+    cancel r (bitsOf d) (bitsOf b) h (low-lt 32 d) (e ∙ sym (low-add d b (sub-fits f g) (wide g) (rw back (wide f)) ∙ ap bitsOf back))

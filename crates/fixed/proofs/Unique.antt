@@ -2,8 +2,11 @@
 use mathlib.Core.Path.{_≡_, sym, _∙_}
 use mathlib.Core.Bool.{Bool}
 use contract.Lifetimes.{Lfts}
+use Prim.Native.Nat.{ℕ}
 use lib.IntN.{ℤ}
 use Rattle.fixed.specs.declared.Fixed.{Fixed}
+use Rattle.fixed.proofs.bits_of.Reads as bits-of-reads
+use Rattle.fixed.proofs.signed.Reads as signed-reads
 use Rattle.fixed.proofs.Fixed.from_bits.Reads as from-bits-reads
 use Rattle.fixed.proofs.Fixed.neg.Reads as neg-reads
 use Rattle.fixed.proofs.Fixed.abs.Reads as abs-reads
@@ -23,6 +26,12 @@ use Rattle.fixed.proofs.Fixed.mul_div.Reads as mul-div-reads
 use Rattle.fixed.proofs.Fixed.less.Reads as less-reads
 use Rattle.fixed.proofs.Fixed.at_most.Reads as at-most-reads
 use Rattle.fixed.proofs.Fixed.same.Reads as same-reads
+
+pub bits-of-unique : (κs : Lfts 0) (z : ℤ) (r r′ : ℕ) → bits-of-reads.Post κs (z, tt) r (z, tt) → bits-of-reads.Post κs (z, tt) r′ (z, tt) → r ≡ r′
+bits-of-unique κs z r r′ p q = p ∙ sym q
+
+pub signed-unique : (κs : Lfts 0) (n : ℕ) (r r′ : ℤ) → signed-reads.Post κs (n, tt) r (n, tt) → signed-reads.Post κs (n, tt) r′ (n, tt) → r ≡ r′
+signed-unique κs n r r′ p q = p ∙ sym q
 
 pub from-bits-unique : (κs : Lfts 0) (z : ℤ) (r r′ : Fixed) → from-bits-reads.Post κs (z, tt) r (z, tt) → from-bits-reads.Post κs (z, tt) r′ (z, tt) → r ≡ r′
 from-bits-unique κs z r r′ p q = p ∙ sym q

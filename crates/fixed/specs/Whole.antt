@@ -13,9 +13,17 @@ lowBits k (negsuc n) = 2 ^ k - suc (n % 2 ^ k)
 abbrev pub clearLow : ℕ → ℤ → ℤ
 clearLow k z = z -ℤ pos (lowBits k z)
 
+-- the low 32 bits of z, from 0 to 2^32 − 1
+abbrev pub bitsOf : ℤ → ℕ
+bitsOf z = lowBits 32 z
+
+-- 32 bits read as signed
+unfoldable pub signed : ℕ → ℤ
+signed n = toZ w32 n
+
 -- the low 32 bits of z, as a signed number
 unfoldable pub wrap32 : ℤ → ℤ
-wrap32 z = toZ w32 (lowBits 32 z)
+wrap32 z = signed (bitsOf z)
 
 -- z / d to the nearest whole number, halves away from zero
 unfoldable pub nearest : ℤ → ℕ → ℤ

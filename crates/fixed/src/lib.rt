@@ -3,18 +3,34 @@ ghost use mathlib.Core.Path.{_≡_};
 ghost use lib.Signed.{_<ℤ_};
 ghost use lib.IntN.{pos, natAbs, _*ℤ_};
 ghost use Prim.Native.Nat.{_≤_, _<_, _^_};
-ghost use Rattle.fixed.specs.Whole.{wrap32, nearest};
+ghost use Rattle.fixed.specs.Whole.{bitsOf, signed, wrap32, nearest};
 ghost use Rattle.fixed.specs.Fixed.{fromBits, addF, subF, negF, absF, twiceF, mulF, divF, mulDivF, roundF, fractF, halfF, midpointF, truncF, lessF, atMostF, sameF, minF, maxF};
 
-// The low 32 bits of x, as a signed number.
+// The 32 bits of a number, as one without a sign.
+pub fn bits_of(x: i32) -> u32
+    ensures { λ r. ⌜ r ≡ bitsOf x ⌝ }
+{
+    if x < 0 {
+        return !((!x) as u32);
+    }
+    x as u32
+}
+
+// 32 bits, read as a number with a sign.
+pub fn signed(bits: u32) -> i32
+    ensures { λ r. ⌜ r ≡ signed bits ⌝ }
+{
+    if bits < 0x8000_0000 {
+        return bits as i32;
+    }
+    !((!bits) as i32)
+}
+
+// The low 32 bits of x, as a number with a sign.
 fn wrap(x: i64) -> i32
     ensures { λ r. ⌜ r ≡ wrap32 x ⌝ }
 {
-    let low = x & 0xffff_ffff;
-    if low < 0x8000_0000 {
-        return low as i32;
-    }
-    (low - 0x1_0000_0000) as i32
+    signed((x & 0xffff_ffff) as u32)
 }
 
 // The product of two 32-bit numbers, which fits in 64.
@@ -81,17 +97,17 @@ impl Fixed {
     pub fn add(self, b: Fixed) -> Fixed
         ensures { λ r. ⌜ r ≡ addF self b ⌝ }
     {
-        Fixed {
-            bits: wrap((self.bits as i64) + (b.bits as i64)),
-        }
+        let sum = std::num::wrapping_add_u32(bits_of(self.bits), bits_of(b.bits));
+        Fixed { bits: signed(sum) }
     }
 
     // self - b, wrapping.
     pub fn sub(self, b: Fixed) -> Fixed
         ensures { λ r. ⌜ r ≡ subF self b ⌝ }
     {
+        let difference = std::num::wrapping_sub_u32(bits_of(self.bits), bits_of(b.bits));
         Fixed {
-            bits: wrap((self.bits as i64) - (b.bits as i64)),
+            bits: signed(difference),
         }
     }
 

@@ -9,12 +9,13 @@ use lib.IntN.{pos}
 use lib.ListN.{length}
 use lib.Signed.{_<ℤ_}
 use borrow.Author.Tests.{le-ltb, ltb-false}
+use Rattle.fixed.specs.Whole.{signed}
 use Rattle.fixed.specs.Fixed.{fromBits, lessF}
 use Rattle.fixed.proofs.Ints.{ints}
 use Rattle.fixed.proofs.Order.{heights}
 use Rattle.zones.specs.State.{Counted}
 use Rattle.words.specs.declared.answer.Answer.the-variants.{Ok}
-use Rattle.words.specs.Words.{rawAt, signed, negative, numberAt}
+use Rattle.words.specs.Words.{rawAt, negative, numberAt}
 use Rattle.words.specs.Answers.{firstOf}
 use Rattle.words.proofs.Rows.{Refusing, none-holds}
 use Rattle.header.specs.Header.{differs, padded, headerRows}

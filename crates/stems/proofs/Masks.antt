@@ -77,8 +77,17 @@ inside [] n h = omega arith
 inside (x ∷ xs) zero h = omega arith
 inside (x ∷ xs) (suc n) h = omega (arith, inside xs n h)
 
-active-inside : (m : HintMask) (i : ℕ) → isActive m i ≡ true → i / 8 < length (m .bytes)
+-- The bytes of a mask have an active stem's bit among them ..
+pub active-inside : (m : HintMask) (i : ℕ) → isActive m i ≡ true → i / 8 < length (m .bytes)
 active-inside m i e = inside (m .bytes) (i / 8) (omega (arith, active-holds m i e, pow-pos (7 - i % 8)))
+
+-- .. so no stem past them is active.
+pub past-off : (m : HintMask) (i : ℕ) → length (m .bytes) ≤ i / 8 → isActive m i ≡ false
+past-off m i h = go (isActive m i) refl
+  where
+    go : (t : Bool) → isActive m i ≡ t → t ≡ false
+    go true e = absurd (omega (arith, active-inside m i e))
+    go false e = refl
 
 off : (m : HintMask) (i : ℕ) (t : Bool) → isActive m i ≡ t → isActive (cond t (without m i) m) i ≡ false
 unfolding isActive

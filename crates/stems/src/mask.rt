@@ -1,6 +1,6 @@
 // Which stems are active: a bit for each, the most significant bit of the first byte for stem 0.
 ghost use mathlib.Core.Path.{_≡_};
-ghost use Prim.Native.Nat.{_-_, _%_, _^_, _<_};
+ghost use Prim.Native.Nat.{_-_, _%_, _^_};
 ghost use Rattle.stems.specs.Mask.{allActive, maskOf, isActive, cleared, sameMask};
 
 pub struct HintMask {
@@ -38,18 +38,19 @@ impl HintMask {
         HintMask { bytes: copy }
     }
 
-    // Ports `HintMask::get`.
+    // Ports `HintMask::get`. No stem past the last bit is active.
     pub fn get(self, bit: usize) -> bool
-        requires { ⌜ bit < 96 ⌝ }
         ensures { λ r. ⌜ r ≡ isActive self bit ⌝ }
     {
+        if 95 < bit {
+            return false;
+        }
         let byte = self.bytes[bit / 8];
         byte / msb_mask(bit) % 2 == 1
     }
 
     // Ports `HintMask::clear`.
     pub fn clear(self, bit: usize) -> HintMask
-        requires { ⌜ bit < 96 ⌝ }
         ensures { λ r. ⌜ r ≡ cleared self bit ⌝ }
     {
         if !self.get(bit) {

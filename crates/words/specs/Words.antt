@@ -5,9 +5,8 @@ use Prim.Native.Nat.{ℕ, _+_, _*_, _^_}
 use lib.Dec.{leb}
 use lib.ListN.{getD}
 use lib.IntN.{ℤ}
-use mir.Syntax.{w32}
-use mir.Val.{toZ}
 use Rattle.fixed.specs.declared.Fixed.{Fixed}
+use Rattle.fixed.specs.Whole.{signed}
 use Rattle.fixed.specs.Fixed.{fromBits}
 
 -- word i as a number from 0 to 2^32 − 1
@@ -15,11 +14,7 @@ unfoldable pub rawAt : List ℕ → ℕ → ℕ
 rawAt s i =
     getD s (4 * i) 0 + getD s (4 * i + 1) 0 * 256 + getD s (4 * i + 2) 0 * 65536 + getD s (4 * i + 3) 0 * 16777216
 
--- 32 bits read as signed
-unfoldable pub signed : ℕ → ℤ
-signed n = toZ w32 n
-
--- which are negative from 2^31 on
+-- 32 bits are negative from 2^31 on
 abbrev pub negative : ℕ → Bool
 negative n = leb (2 ^ 31) n
 

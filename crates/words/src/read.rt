@@ -1,9 +1,10 @@
 // Words of a script: four bytes each, the least first.
 use fixed::Fixed;
+use fixed::signed;
 ghost use mathlib.Core.Path.{_≡_};
 ghost use Prim.Native.Nat.{_+_, _*_, _≤_, _<_};
 ghost use lib.ListN.{length};
-ghost use Rattle.words.specs.Words.{rawAt, signed, wordAt, numberAt};
+ghost use Rattle.words.specs.Words.{rawAt, wordAt, numberAt};
 
 fn wide(byte: u8) -> u32
     ensures { λ r. ⌜ (r ≡ byte) × (r < 256) ⌝ }
@@ -24,15 +25,6 @@ pub fn raw(script: &[u8], i: usize) -> u32
     b0 + b1 * 256 + b2 * 65536 + b3 * 16777216
 }
 
-fn to_signed(bits: u32) -> i32
-    ensures { λ r. ⌜ r ≡ signed bits ⌝ }
-{
-    if bits < 0x8000_0000 {
-        return bits as i32;
-    }
-    !((!bits) as i32)
-}
-
 // The same as an index, for counts, offsets and kinds.
 pub fn natural(script: &[u8], i: usize) -> usize
     requires { ⌜ 4 * i + 4 ≤ length (now script) ⌝ }
@@ -46,7 +38,7 @@ pub fn word(script: &[u8], i: usize) -> i32
     requires { ⌜ 4 * i + 4 ≤ length (now script) ⌝ }
     ensures { λ r. ⌜ r ≡ wordAt (rawAt (now (script .entry))) i ⌝ }
 {
-    to_signed(raw(script, i))
+    signed(raw(script, i))
 }
 
 // A word as a number in 16.16.

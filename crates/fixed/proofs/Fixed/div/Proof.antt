@@ -7,7 +7,7 @@ use lib.Signed.{ltZ}
 use mir.Syntax.{w32}
 use mir.Val.{SFits, ofZ}
 use mir.Facts.{toZ-ofZ}
-use Rattle.fixed.specs.Whole.{lowBits, wrap32}
+use Rattle.fixed.specs.Whole.{lowBits, signed, wrap32}
 use Rattle.fixed.specs.Fixed.{fromBits, wrapF, negF, divF}
 use Rattle.fixed.proofs.Bits.{read}
 use Rattle.fixed.proofs.Nearest.{size-below, size-above, over-zero, over-zero-below, over-zero-above, over-below, over-above}
@@ -56,7 +56,7 @@ returns c =
     c .neg .ensures ∙ ap wrapF (over-zero-below _ (rw (toZ-ofZ (fs s)) at (c .before .if2 .taken)) ∙ over-zero _ _ (fb s) zero)
 
 returns-2 : tie.Need-returns-2
-unfolding divF wrap32 lowBits
+unfolding divF wrap32 signed lowBits
 returns-2 c =
     let s = c .before .before .before .before .before .before in
     let zero : ofZ w32 (s .args .b .bits) ≡ 0 = search needs in

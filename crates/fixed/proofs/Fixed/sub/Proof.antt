@@ -1,12 +1,13 @@
--- `Fixed::sub` meets its contract: the difference is exact in 64 bits, and wraps once. Assumes nothing.
-use borrow.Author.Needs.{needs}
+-- `Fixed::sub` meets its contract: what is added to the bits of one to give those of the other has the low bits of the difference. Assumes nothing.
 use mathlib.Core.Path.{ap, _∙_}
+use native.Mathlib.Omega.{arith}
 use mir.Syntax.{w32}
 use mir.Val.{SFits}
 use mir.Facts.{toZ-ofZ}
+use borrow.Author.Needs.{needs}
+use Rattle.fixed.specs.Whole.{signed, wrap32}
 use Rattle.fixed.specs.Fixed.{fromBits, subF}
-use Rattle.fixed.proofs.Ints.{sub-fits}
-use Rattle.fixed.proofs.Bits.{wide, widened, read}
+use Rattle.fixed.proofs.Bits.{read, low-sub}
 use Rattle.fixed.proofs.Fixed.sub.Statement.{statement}
 use Rattle.fixed.proofs.Fixed.sub.Tie as tie
 
@@ -17,25 +18,26 @@ module _ (s : tie.Start) where
   fb : SFits w32 (s .args .b .bits)
   fb = search needs
 
-cast-wrap : tie.Need-cast-wrap
-cast-wrap c = search (needs, wide)
+bits-of-requires : tie.Need-bits-of-requires
+bits-of-requires c κs = search needs
 
-cast-wrap-2 : tie.Need-cast-wrap-2
-cast-wrap-2 c = search (needs, wide)
+bits-of-requires-2 : tie.Need-bits-of-requires-2
+bits-of-requires-2 c κs = search needs
 
-sub-wrap : tie.Need-sub-wrap
-sub-wrap c =
-    let s = c .before .before .before .before in
-    rw (widened _ (fs s), widened _ (fb s)) (sub-fits (fs s) (fb s))
+wrapping-sub-u32-requires : tie.Need-wrapping-sub-u32-requires
+wrapping-sub-u32-requires c κs = search needs
 
-wrap-requires : tie.Need-wrap-requires
-wrap-requires c κs = search needs
+signed-requires : tie.Need-signed-requires
+signed-requires c κs = search needs
 
 returns : tie.Need-returns
-unfolding subF
+unfolding subF wrap32
 returns c =
-    let s = c .before .before .before .before .before in
-    ap fromBits (read w32 (c .wrap .result) (c .wrap .ok) ∙ c .wrap .ensures ∙ rw (toZ-ofZ (sub-wrap (c .before)), widened _ (fs s), widened _ (fb s)))
+    let w = c .before in
+    let b = w .before .before .before in
+    let s = b .before .before in
+    let e = rw (w .before .bits-of2 .ensures, b .bits-of .ensures, toZ-ofZ (fs s), toZ-ofZ (fb s)) at (w .wrapping-sub-u32 .ensures) in
+    ap fromBits (read w32 (c .signed .result) (c .signed .ok) ∙ c .signed .ensures ∙ ap signed (low-sub _ _ _ (fs s) (fb s) (omega (arith, w .wrapping-sub-u32 .ok)) e))
 
 pub sub-spec : {M : Type 1} → statement M
-sub-spec = tie.close (tie.spec cast-wrap cast-wrap-2 sub-wrap wrap-requires returns)
+sub-spec = tie.close (tie.spec bits-of-requires bits-of-requires-2 wrapping-sub-u32-requires signed-requires returns)

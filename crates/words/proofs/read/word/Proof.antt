@@ -4,20 +4,20 @@ use mir.Syntax.{w32}
 use mir.Val.{SFits}
 use mir.Facts.{toZ-ofZ}
 use borrow.Author.Needs.{needs}
-use Rattle.words.specs.Words.{signed}
+use Rattle.fixed.specs.Whole.{signed}
 use Rattle.words.proofs.read.word.Statement.{statement}
 use Rattle.words.proofs.read.word.Tie as tie
 
 raw-requires : tie.Need-raw-requires
 raw-requires c κs = search needs
 
-to-signed-requires : tie.Need-to-signed-requires
-to-signed-requires c κs = search needs
+signed-requires : tie.Need-signed-requires
+signed-requires c κs = search needs
 
 returns : tie.Need-returns
 returns c =
-    let fits : SFits w32 (c .to-signed .result) = search needs in
-    toZ-ofZ fits ∙ c .to-signed .ensures ∙ ap signed (c .before .raw .ensures)
+    let fits : SFits w32 (c .signed .result) = search needs in
+    toZ-ofZ fits ∙ c .signed .ensures ∙ ap signed (c .before .raw .ensures)
 
 pub word-spec : {M : Type 1} → statement M
-word-spec = tie.close (tie.spec raw-requires to-signed-requires returns)
+word-spec = tie.close (tie.spec raw-requires signed-requires returns)

@@ -1,13 +1,13 @@
--- `to_signed` reads 32 bits as signed: below 2^31 they are themselves, and else the complement of their complement. Assumes nothing.
+-- `signed` meets its contract: below 2^31 the bits are the number, and else the complement of their complement. Assumes nothing.
 use mathlib.Core.Path.{_≡_, refl, ap}
 use Prim.Native.Nat.{_-_}
 use native.Mathlib.Omega.{arith}
 use mir.Syntax.{w32}
 use mir.Val.{toZ}
 use borrow.Author.Needs.{needs}
-use Rattle.words.specs.Words.{signed}
-use Rattle.words.proofs.read.to_signed.Statement.{statement}
-use Rattle.words.proofs.read.to_signed.Tie as tie
+use Rattle.fixed.specs.Whole.{signed}
+use Rattle.fixed.proofs.signed.Statement.{statement}
+use Rattle.fixed.proofs.signed.Tie as tie
 
 cast-result : tie.Need-cast-result
 cast-result c = search needs
@@ -26,5 +26,5 @@ returns-2 c =
     let back : 4294967295 - (4294967295 - bits) ≡ bits = omega arith in
     ap (toZ w32) back
 
-pub to-signed-spec : {M : Type 1} → statement M
-to-signed-spec = tie.close (tie.spec cast-result returns cast-result-2 returns-2)
+pub signed-spec : {M : Type 1} → statement M
+signed-spec = tie.close (tie.spec cast-result returns cast-result-2 returns-2)
