@@ -7,6 +7,7 @@ use lib.IntN.{ℤ}
 use Rattle.fixed.specs.declared.Fixed.{Fixed}
 use Rattle.fixed.proofs.bits_of.Reads as bits-of-reads
 use Rattle.fixed.proofs.signed.Reads as signed-reads
+use Rattle.fixed.proofs.least.Reads as least-reads
 use Rattle.fixed.proofs.Fixed.from_bits.Reads as from-bits-reads
 use Rattle.fixed.proofs.Fixed.neg.Reads as neg-reads
 use Rattle.fixed.proofs.Fixed.abs.Reads as abs-reads
@@ -32,6 +33,9 @@ bits-of-unique κs z r r′ p q = p ∙ sym q
 
 pub signed-unique : (κs : Lfts 0) (n : ℕ) (r r′ : ℤ) → signed-reads.Post κs (n, tt) r (n, tt) → signed-reads.Post κs (n, tt) r′ (n, tt) → r ≡ r′
 signed-unique κs n r r′ p q = p ∙ sym q
+
+pub least-unique : (κs : Lfts 0) (a b r r′ : ℕ) → least-reads.Post κs (a, (b, tt)) r (a, (b, tt)) → least-reads.Post κs (a, (b, tt)) r′ (a, (b, tt)) → r ≡ r′
+least-unique κs a b r r′ p q = p ∙ sym q
 
 pub from-bits-unique : (κs : Lfts 0) (z : ℤ) (r r′ : Fixed) → from-bits-reads.Post κs (z, tt) r (z, tt) → from-bits-reads.Post κs (z, tt) r′ (z, tt) → r ≡ r′
 from-bits-unique κs z r r′ p q = p ∙ sym q

@@ -2,7 +2,7 @@
 ghost use mathlib.Core.Path.{_≡_};
 ghost use lib.Signed.{_<ℤ_};
 ghost use lib.IntN.{pos, natAbs, _*ℤ_};
-ghost use Prim.Native.Nat.{_≤_, _<_, _^_};
+ghost use Prim.Native.Nat.{min, _≤_, _<_, _^_};
 ghost use Rattle.fixed.specs.Whole.{bitsOf, signed, wrap32, nearest};
 ghost use Rattle.fixed.specs.Fixed.{fromBits, addF, subF, negF, absF, twiceF, mulF, divF, mulDivF, roundF, fractF, halfF, midpointF, truncF, lessF, atMostF, sameF, minF, maxF};
 
@@ -69,6 +69,16 @@ fn ratio(a: i32, b: i32, d: u32) -> i32
     ensures { λ r. ⌜ r ≡ wrap32 (nearest (a *ℤ b) d) ⌝ }
 {
     wrap(nearest_div(product(a, b), d))
+}
+
+// The lesser of two counts.
+pub fn least(a: usize, b: usize) -> usize
+    ensures { λ r. ⌜ r ≡ min a b ⌝ }
+{
+    if a < b {
+        return a;
+    }
+    b
 }
 
 // Ports `Fixed`, which hint.rs uses and does not contain.

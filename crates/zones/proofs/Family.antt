@@ -7,38 +7,38 @@ use native.Mathlib.Numerals.{add-one}
 use lib.ListN.{length, take, drop, getD, set}
 use Rattle.fixed.specs.declared.Fixed.{Fixed}
 use Rattle.fixed.specs.Fixed.{ZERO, sameF}
-use Rattle.zones.specs.declared.blues.Blues.{Blues}
+use Rattle.zones.specs.declared.blues.Blue.{Blue}
 use Rattle.zones.specs.declared.blues.BlueZone.{BlueZone}
 use Rattle.zones.specs.declared.blues.Zones.{Zones}
 use Rattle.zones.specs.declared.blues.Nearest.{Nearest}
-use Rattle.zones.specs.Zones.{noBlue, listOf, familyEdge, nearer, nearestFrom}
+use Rattle.zones.specs.Zones.{noBlue, familyEdge, nearer, nearestFrom}
 use Rattle.zones.proofs.Taken.{taken-more, taken-ends}
 
--- the search from pair i on
-abbrev pub searchFrom : Bool → Blues → Fixed → Fixed → Nearest → ℕ → Nearest
-searchFrom bottom bs flat limit near i = nearestFrom flat limit near (map (familyEdge bottom) (drop i (listOf bs)))
+-- the search from pair i on, among the first n
+abbrev pub searchFrom : Bool → List Blue → ℕ → Fixed → Fixed → Nearest → ℕ → Nearest
+searchFrom bottom bs n flat limit near i = nearestFrom flat limit near (map (familyEdge bottom) (drop i (take n bs)))
 
-module _ (bottom : Bool) (bs : Blues) (fits : bs .count ≤ length (bs .pairs)) (flat limit : Fixed) (near : Nearest) (i : ℕ) where
+module _ (bottom : Bool) (bs : List Blue) (n : ℕ) (fits : n ≤ length bs) (flat limit : Fixed) (near : Nearest) (i : ℕ) where
   -- it takes in pair i, unless the nearest so far ends it
-  search-at : i < bs .count →
-      searchFrom bottom bs flat limit near i ≡
-      cond (sameF (near .diff) ZERO) near (searchFrom bottom bs flat limit (nearer flat limit near (familyEdge bottom (getD (bs .pairs) i noBlue))) (i + 1))
+  search-at : i < n →
+      searchFrom bottom bs n flat limit near i ≡
+      cond (sameF (near .diff) ZERO) near (searchFrom bottom bs n flat limit (nearer flat limit near (familyEdge bottom (getD bs i noBlue))) (i + 1))
   unfolding nearestFrom
-  search-at l = rw (taken-more (bs .count) (bs .pairs) fits i noBlue l)
+  search-at l = rw (taken-more n bs fits i noBlue l)
 
   -- a distance of 0 ends it
-  pub search-found : i < bs .count → sameF (near .diff) ZERO ≡ true → searchFrom bottom bs flat limit near i ≡ near
+  pub search-found : i < n → sameF (near .diff) ZERO ≡ true → searchFrom bottom bs n flat limit near i ≡ near
   search-found l t = rw (search-at l, t)
 
   -- any other distance lets it take in pair i
-  pub search-goes : i < bs .count → sameF (near .diff) ZERO ≡ false →
-      searchFrom bottom bs flat limit near i ≡ searchFrom bottom bs flat limit (nearer flat limit near (familyEdge bottom (getD (bs .pairs) i noBlue))) (i + 1)
+  pub search-goes : i < n → sameF (near .diff) ZERO ≡ false →
+      searchFrom bottom bs n flat limit near i ≡ searchFrom bottom bs n flat limit (nearer flat limit near (familyEdge bottom (getD bs i noBlue))) (i + 1)
   search-goes l t = rw (search-at l, t)
 
   -- the end of the list ends it
-  pub search-ends : bs .count ≤ i → searchFrom bottom bs flat limit near i ≡ near
+  pub search-ends : n ≤ i → searchFrom bottom bs n flat limit near i ≡ near
   unfolding nearestFrom
-  search-ends l = rw (taken-ends (bs .count) (bs .pairs) fits i l)
+  search-ends l = rw (taken-ends n bs fits i l)
 
 -- the zones before i changed alike; at the count this is `eachIn`
 abbrev pub eachBefore : (BlueZone → BlueZone) → Zones → ℕ → Zones

@@ -14,22 +14,22 @@ use Rattle.zones.specs.Zones.{noZone}
 use Rattle.zones.specs.Capture.{holds, firstHolding, lifted}
 use Rattle.zones.proofs.Taken.{taken-more, taken-ends}
 
--- the first of a state's zones, from zone i on, that holds
-abbrev pub holderFrom : HintState → Hint → Hint → ℕ → Held
-holderFrom st b t i = firstHolding (st .«blue_fuzz») b t (drop i (take (st .«zone_count») (st .zones)))
+-- the first of a state's first n zones, from zone i on, that holds
+abbrev pub holderFrom : HintState → ℕ → Hint → Hint → ℕ → Held
+holderFrom st n b t i = firstHolding (st .«blue_fuzz») b t (drop i (take n (st .zones)))
 
-module _ (st : HintState) (fits : st .«zone_count» ≤ length (st .zones)) (b t : Hint) (i : ℕ) where
+module _ (st : HintState) (n : ℕ) (fits : n ≤ length (st .zones)) (b t : Hint) (i : ℕ) where
   -- it is zone i where that holds, and is among the later ones where not
-  pub holder-at : i < st .«zone_count» →
+  pub holder-at : i < n →
       let z = getD (st .zones) i noZone in
-      holderFrom st b t i ≡ cond (holds (st .«blue_fuzz») b t z) (By z) (holderFrom st b t (i + 1))
+      holderFrom st n b t i ≡ cond (holds (st .«blue_fuzz») b t z) (By z) (holderFrom st n b t (i + 1))
   unfolding firstHolding
-  holder-at l = rw (taken-more (st .«zone_count») (st .zones) fits i noZone l)
+  holder-at l = rw (taken-more n (st .zones) fits i noZone l)
 
   -- no zone is left
-  pub holder-ends : st .«zone_count» ≤ i → holderFrom st b t i ≡ Free
+  pub holder-ends : n ≤ i → holderFrom st n b t i ≡ Free
   unfolding firstHolding
-  holder-ends l = rw (taken-ends (st .«zone_count») (st .zones) fits i l)
+  holder-ends l = rw (taken-ends n (st .zones) fits i l)
 
 -- what a captured edge keeps, and that it is locked where it is valid
 pub record Keeps (e r : Hint) : Type 0 where

@@ -14,9 +14,7 @@ use Rattle.zones.specs.declared.blues.Blue.{Blue}
 use Rattle.zones.specs.declared.blues.Blues.{Blues}
 use Rattle.zones.specs.declared.blues.BlueZone.{BlueZone}
 use Rattle.zones.specs.declared.blues.Zones.{Zones}
-use Rattle.zones.specs.declared.state.HintParams.{HintParams}
 use Rattle.zones.specs.Zones.{noBlue, noZone, heightOf, zoneOf, sift, bluesZones, greatestFrom, filled, packed, noZones, pushed, keptIn, readIn, listOf, kept, eachIn}
-use Rattle.zones.specs.State.{emBox, stateBy, stateOf}
 use Rattle.zones.proofs.Taken.{taken-more, taken-ends}
 
 -- a pair read adds at most one zone
@@ -117,22 +115,12 @@ blues-length bs = go (sift bs) (sift-length bs)
     go [] h = h
     go (c ∷ cs) h = simp length-map h
 
-pub kept-length : (blues others : Blues) → blues .count ≤ 7 → length (kept blues others) ≤ 12
+pub kept-length : (blues others : Blues) → length (listOf blues) ≤ 7 → length (kept blues others) ≤ 12
 unfolding kept
 kept-length blues others h =
     let five = take 5 (listOf others) in
-    simp (length-append, length-map)
-    (omega (arith, blues-length (listOf blues), length-take (blues .count) (blues .pairs), sift-length five, length-take 5 (listOf others)))
+    simp (length-append, length-map) (omega (arith, blues-length (listOf blues), sift-length five, length-take 5 (listOf others)))
 
 -- zones that are changed alike
 pub each-filled : (f : BlueZone → BlueZone) (zs : List BlueZone) → eachIn f (packed zs) .list ≡ filled (map f zs)
 each-filled f zs = rw (take-append-seam zs, drop-append-seam zs, length-map zs f)
-
--- a state has at most twelve zones
-pub state-count : (p : HintParams) (s : Fixed) → p .blues .count ≤ 7 → stateOf p s .«zone_count» ≤ 12
-unfolding stateOf
-state-count p s h = go (emBox p)
-  where
-    go : (em : Bool) → stateBy em p s .«zone_count» ≤ 12
-    go true = omega arith
-    go false = simp length-map (kept-length (p .blues) (p .«other_blues») h)

@@ -1,5 +1,6 @@
 // Lists of pairs, the zones kept of them, and their flat edges.
 use fixed::Fixed;
+use fixed::least;
 ghost use mathlib.Core.Path.{_≡_};
 ghost use Prim.Native.Nat.{_+_, _<_, _≤_};
 ghost use lib.ListN.{take, getD};
@@ -106,7 +107,6 @@ impl BlueZone {
 
     // From `build_zones`: the flat edge moved to the family's nearest.
     pub(crate) fn by_family(self, others: Blues, blues: Blues, limit: Fixed) -> BlueZone
-        requires { ⌜ (others .count ≤ 7) × (blues .count ≤ 7) ⌝ }
         ensures { λ r. ⌜ r ≡ movedFlat others blues limit self ⌝ }
     {
         let flat = self.cs_flat_edge;
@@ -203,7 +203,7 @@ impl Zones {
         scale: Fixed,
         boost: Fixed,
     ) -> Zones
-        requires { ⌜ (self .count ≤ 12) × ((others .count ≤ 7) × (blues .count ≤ 7)) ⌝ }
+        requires { ⌜ self .count ≤ 12 ⌝ }
         ensures { λ r. ⌜ r ≡ eachIn (λ z. deviceFlat scale boost (movedFlat others blues limit z)) self ⌝ }
     {
         let mut zones = self;
@@ -247,10 +247,9 @@ impl Blues {
 
     // From `build_zones`: the family edge nearest to a flat edge, or that flat edge, and how far it is. For top zones the first pair is passed over.
     pub(crate) fn nearest(self, flat: Fixed, limit: Fixed, bottom: bool) -> Nearest
-        requires { ⌜ self .count ≤ 7 ⌝ }
         ensures { λ r. ⌜ r ≡ nearestOf bottom self flat limit ⌝ }
     {
-        let count = self.count;
+        let count = least(self.count, 7);
         let mut near = Nearest {
             edge: flat,
             diff: Fixed::MAX,

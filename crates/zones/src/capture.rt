@@ -2,9 +2,9 @@
 use crate::blues::BlueZone;
 use crate::state::HintState;
 use fixed::Fixed;
+use fixed::least;
 use stems::Hint;
 ghost use mathlib.Core.Path.{_≡_};
-ghost use Prim.Native.Nat.{_≤_};
 ghost use lib.ListN.{take};
 ghost use Rattle.zones.specs.Capture.{within, holds, firstHolding, bottomGoal, topGoal, moveOf, lifted, captureOf};
 
@@ -60,10 +60,9 @@ fn lift(edge: Hint, by: Fixed) -> Hint
 
 impl HintState {
     fn holder(self, bottom: Hint, top: Hint) -> Held
-        requires { ⌜ self .«zone_count» ≤ 12 ⌝ }
         ensures { λ r. ⌜ r ≡ firstHolding (self .«blue_fuzz») bottom top (take (self .«zone_count») (self .zones)) ⌝ }
     {
-        let count = self.zone_count;
+        let count = least(self.zone_count, 12);
         let fuzz = self.blue_fuzz;
         let mut i: usize = 0;
         while i < count {
@@ -119,7 +118,6 @@ impl HintState {
 
     // Ports `HintState::capture`.
     pub fn capture(self, bottom: Hint, top: Hint) -> Captured
-        requires { ⌜ self .«zone_count» ≤ 12 ⌝ }
         ensures { λ r. ⌜ r ≡ captureOf self bottom top ⌝ }
     {
         let held = self.holder(bottom, top);

@@ -3,12 +3,13 @@ use crate::blues::BlueZone;
 use crate::blues::Blues;
 use crate::blues::Zones;
 use fixed::Fixed;
+use fixed::least;
 ghost use mathlib.Core.Path.{_≡_};
 ghost use Prim.Native.Nat.{_<_};
 ghost use lib.IntN.{pos};
 ghost use lib.Signed.{_<ℤ_};
 ghost use Rattle.zones.specs.Zones.{packed};
-ghost use Rattle.zones.specs.State.{Counted, emBox, keptOf, clampedScale, boostOf, stateOf};
+ghost use Rattle.zones.specs.State.{emBox, keptOf, clampedScale, boostOf, stateOf};
 
 pub struct HintParams {
     pub blue_scale: Fixed,
@@ -63,12 +64,11 @@ impl HintParams {
 
     // From `build_zones`: the zones kept of the blues and of the first five other blues.
     pub(crate) fn kept(self) -> Zones
-        requires { ⌜ Counted self ⌝ }
         ensures { λ r. ⌜ r ≡ packed (keptOf self) ⌝ }
     {
         let blues = self.blues;
         let others = self.other_blues;
-        let zones = Zones::none().read(blues, blues.count, false);
+        let zones = Zones::none().read(blues, least(blues.count, 7), false);
         if 5 < others.count {
             return zones.read(others, 5, true);
         }
@@ -106,7 +106,7 @@ fn boost_at(scale: Fixed, blue_scale: Fixed) -> Fixed
 impl HintState {
     // Ports `HintState::new` and `build_zones`.
     pub fn new(params: HintParams, scale: Fixed) -> HintState
-        requires { ⌜ Counted params × (pos 0 <ℤ scale .bits) ⌝ }
+        requires { ⌜ pos 0 <ℤ scale .bits ⌝ }
         ensures { λ r. ⌜ r ≡ stateOf params scale ⌝ }
     {
         let blue_scale = params.blue_scale;

@@ -2,11 +2,12 @@
 use mathlib.Core.Path.{_≡_, ap, _∙_}
 use mathlib.Core.Bool.{true, false}
 use mathlib.Core.List.{List, _++_, map}
-use Prim.Native.Nat.{_≤_}
+use Prim.Native.Nat.{ℕ, _≤_}
 use native.Mathlib.Omega.{arith}
-use lib.ListN.{length, take, length-take}
+use lib.ListN.{length, take, length-take, length-map}
 use lib.Seq.{take-take, take-all}
 use borrow.Author.Needs.{needs}
+use Rattle.fixed.proofs.Counts.{take-least}
 use Rattle.zones.specs.declared.blues.Blue.{Blue}
 use Rattle.zones.specs.declared.blues.BlueZone.{BlueZone}
 use Rattle.zones.specs.declared.blues.Zones.{Zones}
@@ -16,23 +17,32 @@ use Rattle.zones.proofs.state.HintParams.kept.Statement.{statement}
 use Rattle.zones.proofs.state.HintParams.kept.Tie as tie
 
 module _ (s : tie.Start) where
+  seven : length (s .args .self .blues .pairs) ≡ 7
+  seven = simp length-map at (s .good .0 .1 .1 .1 .1 .1 .1 .0 .1 .1 .0 .1 .0 .1)
+
   few : length (listOf (s .args .self .blues)) ≤ 7
-  few = omega (arith, length-take (s .args .self .blues .count) (s .args .self .blues .pairs), s .pre .blues)
+  few = omega (arith, length-take (s .args .self .blues .count) (s .args .self .blues .pairs), seven)
 
 -- the blues, read
 module _ (c : tie.After-read) where
   abbrev begin : tie.Start
-  begin = c .before .before .before .before
+  begin = c .before .before .before .before .before
+
+  abbrev given : List Blue
+  given = listOf (begin .args .self .blues)
 
   abbrev first : List BlueZone
-  first = bluesZones (sift (listOf (begin .args .self .blues)))
+  first = bluesZones (sift given)
+
+  all : take (c .before .least .result) (begin .args .self .blues .pairs) ≡ given
+  all = ap (λ (n : ℕ). take n (begin .args .self .blues .pairs)) (c .before .least .ensures) ∙ take-least (begin .args .self .blues .count) 7 (begin .args .self .blues .pairs) (seven begin)
 
   read : c .read .result ≡ packed first
   read =
-      c .read .ensures ∙ ap (λ (q : Zones). readIn false q (listOf (begin .args .self .blues))) (c .before .none .ensures) ∙ read-blues (listOf (begin .args .self .blues)) (omega (arith, few begin))
+      c .read .ensures ∙ ap (readIn false (c .before .before .none .result)) all ∙ ap (λ (q : Zones). readIn false q given) (c .before .before .none .ensures) ∙ read-blues given (omega (arith, few begin))
 
   short : length first ≤ 7
-  short = omega (arith, blues-length (listOf (begin .args .self .blues)), few begin)
+  short = omega (arith, blues-length given, few begin)
 
   count : c .read .result .count ≤ 7
   count = rw read short
@@ -44,8 +54,11 @@ module _ (c : tie.After-read) where
 none-requires : tie.Need-none-requires
 none-requires c κs = search needs
 
+least-requires : tie.Need-least-requires
+least-requires c κs = search needs
+
 read-requires : tie.Need-read-requires
-read-requires c κs = rw (c .none .ensures) (c .before .before .before .pre .blues, omega (arith, c .before .before .before .pre .blues))
+read-requires c κs = rw (c .before .none .ensures) (omega (arith, c .least .ensures), omega (arith, c .least .ensures))
 
 read-requires-2 : tie.Need-read-requires-2
 read-requires-2 c κs = (search needs, omega (arith, count (c .before .before)))
@@ -71,4 +84,4 @@ returns-2 c =
 pub kept-spec : {M : Type 1} → statement M
 kept-spec =
     tie.close
-    (tie.spec none-requires read-requires read-requires-2 returns read-requires-3 returns-2)
+    (tie.spec none-requires least-requires read-requires read-requires-2 returns read-requires-3 returns-2)

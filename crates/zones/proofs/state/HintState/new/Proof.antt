@@ -1,7 +1,8 @@
 -- `HintState::new` meets its contract, by those of its calls. Assumes nothing.
 use mathlib.Core.Path.{_≡_, sym, ap, _∙_}
 use mathlib.Core.List.{map}
-use lib.ListN.{length, length-map}
+use native.Mathlib.Omega.{arith}
+use lib.ListN.{length, length-take, length-map}
 use borrow.Author.Needs.{needs}
 use Rattle.fixed.specs.declared.Fixed.{Fixed}
 use Rattle.zones.specs.declared.blues.Zones.{Zones}
@@ -75,7 +76,8 @@ finish-requires : tie.Need-finish-requires
 finish-requires c κs =
     let b = c .before .before .before in
     let p = begin b .args .params in
-    (rw (b .before .before .kept .ensures) (kept-length (p .blues) (p .«other_blues») (begin b .pre .0 .blues)), (begin b .pre .0 .familyOthers, begin b .pre .0 .family))
+    let seven : length (p .blues .pairs) ≡ 7 = simp length-map at (begin b .good .0 .1 .1 .1 .1 .1 .1 .0 .1 .1 .0 .1 .0 .1) in
+    rw (b .before .before .kept .ensures) (kept-length (p .blues) (p .«other_blues») (omega (arith, length-take (p .blues .count) (p .blues .pairs))))
 
 less-requires : tie.Need-less-requires
 less-requires c κs = search needs
