@@ -151,7 +151,6 @@ impl Edges {
 impl HintMap {
     // From `insert`: the place is before the first edge that is not under the edges, and the tests are of the edge there and of the one before.
     fn outcome(self, e: Edges, initial: HintMap, given: bool) -> Outcome
-        requires { ⌜ (self .len ≤ 96) × (initial .len ≤ 96) ⌝ }
         ensures { λ r. ⌜ r ≡ outcomeOf self e initial given ⌝ }
     {
         let len = self.len;
@@ -219,7 +218,6 @@ impl HintMap {
 
     // Ports `HintMap::insert`: a stem's edges are put in, or dropped. The initial map counts where it is given.
     pub fn insert(self, e: Edges, initial: HintMap, given: bool) -> HintMap
-        requires { ⌜ (self .len ≤ 96) × (initial .len ≤ 96) ⌝ }
         ensures { λ r. ⌜ r ≡ insertIn self e initial given ⌝ }
     {
         match self.outcome(e, initial, given) {

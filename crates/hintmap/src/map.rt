@@ -1,8 +1,8 @@
 // The list of edges, and the mapping of a height by it.
 use fixed::Fixed;
+use fixed::least;
 use stems::Hint;
 ghost use mathlib.Core.Path.{_≡_};
-ghost use Prim.Native.Nat.{_≤_};
 ghost use Rattle.hintmap.specs.Map.{newMap, invalidMap, validMap, view, line, mapOf};
 
 pub struct HintMap {
@@ -53,10 +53,9 @@ impl HintMap {
 
     // Ports `HintMap::transform`: upward from the first edge, past each next one that is at or below the height, and downward again past each that is above it.
     pub fn transform(self, height: Fixed) -> Fixed
-        requires { ⌜ self .len ≤ 96 ⌝ }
         ensures { λ r. ⌜ r ≡ mapOf (view self) (self .scale) height ⌝ }
     {
-        let len = self.len;
+        let len = least(self.len, 96);
         if len == 0 {
             return height.mul(self.scale);
         }

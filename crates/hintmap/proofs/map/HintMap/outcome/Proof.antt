@@ -17,6 +17,7 @@ use Rattle.hintmap.specs.declared.insert.Outcome.the-variants.{Enters}
 use Rattle.hintmap.specs.Map.{view, placeOf, mapOf}
 use Rattle.hintmap.specs.Insert.{mayEnter, bars, under, tooHigh, around, again, placedBy, charClear, belowClear, aboveClear, placeFor, placedFor, outcomeOf}
 use Rattle.hintmap.proofs.Near.{Asked, asked, behind-at, behind-none}
+use Rattle.hintmap.proofs.Enter.{enters-room}
 use Rattle.hintmap.proofs.Outcome.{drops, passed}
 use Rattle.hintmap.proofs.map.HintMap.outcome.Statement.{statement}
 use Rattle.hintmap.proofs.map.HintMap.outcome.Tie as tie
@@ -28,38 +29,43 @@ Inv-loop e initial given self len f at₀ at =
 abbrev μ-loop : tie.MeasureT-loop
 μ-loop e initial given self len f at₀ at = self .len - at
 
--- what is known of a test of the edges from a place on
-known : (s : tie.Start Inv-loop μ-loop) (f : Hint → Bool) → Asked (s .args .t1) f
-known s f = asked (s .args .t1) (s .good .0 .1 .1 .0 .1 .0 .1) (s .pre .0) f
+-- what is known of edges that may enter: there is room, so each test of the edges from a place on is the definition's
+module _ (o : tie.Else1 Inv-loop μ-loop) where
+  abbrev begin : tie.Start Inv-loop μ-loop
+  begin = o .before .before
+
+  entry : mayEnter (begin .args .t1 .len) (begin .args .e) ≡ true
+  entry = sym (o .before .may-enter .ensures) ∙ not-false _ (o .if1 .left)
+
+  few : begin .args .t1 .len ≤ 96
+  few = omega (arith, enters-room (begin .args .t1 .len) (begin .args .e) entry)
+
+  known : (f : Hint → Bool) → Asked (begin .args .t1) f
+  known f = asked (begin .args .t1) (begin .good .0 .1 .1 .0 .1 .0 .1) few f
 
 -- what is known where the place is found
 module _ (c : tie.Left-loop Inv-loop μ-loop) where
-  abbrev begin : tie.Start Inv-loop μ-loop
-  begin = c .before .before .before .before .before
+  abbrev entered : tie.Else1 Inv-loop μ-loop
+  entered = c .before .before .before
 
   abbrev map : HintMap
-  map = begin .args .t1
+  map = begin entered .args .t1
 
   abbrev edges : Edges
-  edges = begin .args .e
+  edges = begin entered .args .e
 
   abbrev at : ℕ
   at = c .before .loop .at
 
-  entry : mayEnter (map .len) edges ≡ true
-  entry =
-      let o = c .before .before .before in
-      sym (o .before .may-enter .ensures) ∙ not-false _ (o .if1 .left)
-
   -- it is the place that the definition has
   found : at ≡ placeFor map edges
   found =
-      let k = known begin (λ (e : Hint). lessF (e .«cs_coord») (c .before .before .first .result .«cs_coord»)) in
+      let k = known entered (λ (e : Hint). lessF (e .«cs_coord») (c .before .before .first .result .«cs_coord»)) in
       sym (c .before .loop .inv .1 ∙ ⊎-elim (λ w. k .ends _ _ (w .left)) (λ w. k .stops _ _ (w .0 .taken) (w .2 .ensures) (w .3 .taken)) (c .loop-test .came)) ∙
       ap (λ (f : Hint). placeOf (view map) (f .«cs_coord»)) (c .before .before .first .ensures)
 
   within : (at ≤ map .len) × (map .len ≤ 96)
-  within = (c .before .loop .inv .0, begin .pre .0)
+  within = (c .before .loop .inv .0, few entered)
 
   -- and the test there is the definition's
   char-is : charClear (drop (placeFor map edges) (view map)) edges ≡ charClear (drop at (view map)) edges
@@ -68,7 +74,7 @@ module _ (c : tie.Left-loop Inv-loop μ-loop) where
 -- the edge at the place is not in the way in character height
 character : (c : tie.Joined3 Inv-loop μ-loop) → let l = c .before in charClear (drop (at l) (view (map l))) (edges l) ≡ true
 character c =
-    let k = known (begin (c .before)) (λ (x : Hint). bars x (edges (c .before))) in
+    let k = known (entered (c .before)) (λ (x : Hint). bars x (edges (c .before))) in
     ⊎-elim (λ w. sym (k .clear _ (w .0 .taken) (w .2 .ensures)) ∙ ap not (w .3 .left)) (λ w. sym (k .none _ (w .left))) (c .if3 .came)
 
 module _ (c : tie.Joined5 Inv-loop μ-loop) where
@@ -76,10 +82,10 @@ module _ (c : tie.Joined5 Inv-loop μ-loop) where
   left = c .before .before .before
 
   abbrev initial : HintMap
-  initial = begin left .args .initial
+  initial = begin (entered left) .args .initial
 
   abbrev given : Bool
-  given = begin left .args .given
+  given = begin (entered left) .args .given
 
   abbrev by : Bool → Edges
   by b = placedBy b (view initial) (initial .scale) (map left .scale) (edges left)
@@ -102,7 +108,7 @@ module _ (c : tie.Joined5 Inv-loop μ-loop) where
   above-is = sym (ap (λ (k : ℕ). aboveClear (drop k (view (map left))) (c .if5 .p)) (found left) ∙ ap (aboveClear (drop (placeFor (map left) (edges left)) (view (map left)))) placed)
 
   beside : Asked (map left) (λ (x : Hint). tooHigh x (c .if5 .p))
-  beside = known (begin left) _
+  beside = known (entered left) _
 
 -- the edge before the place is not in the way on the device
 below : (c : tie.Joined6 Inv-loop μ-loop) → let j = c .before in belowClear (view (map (left j))) (at (left j)) (j .if5 .p) ≡ true
@@ -120,7 +126,7 @@ enter c t =
     let j = c .before in
     let l = left j in
     ap (λ (k : ℕ). Enters k (j .if5 .p)) (found l) ∙ ap (Enters (placeFor (map l) (edges l))) (placed j) ∙
-    sym (passed (map l) (edges l) (initial j) (given j) (record { entry = entry l; character = char-is l ∙ character (j .before .before); below = below-is j ∙ below c; above = above-is j ∙ t }))
+    sym (passed (map l) (edges l) (initial j) (given j) (record { entry = entry (entered l); character = char-is l ∙ character (j .before .before); below = below-is j ∙ below c; above = above-is j ∙ t }))
 
 may-enter-requires : tie.Need-may-enter-requires Inv-loop μ-loop
 may-enter-requires c κs = search needs
@@ -137,10 +143,10 @@ loop-holds : tie.Need-loop-holds Inv-loop μ-loop
 loop-holds c = (search needs, omega arith)
 
 mul-x : tie.Need-mul-x Inv-loop μ-loop
-mul-x c = omega arith
+mul-x c = omega (arith, few (c .before .before .before))
 
 element-copy-out-x : tie.Need-element-copy-out-x Inv-loop μ-loop
-element-copy-out-x c = omega arith
+element-copy-out-x c = omega (arith, few (c .before .before .before))
 
 less-requires : tie.Need-less-requires Inv-loop μ-loop
 less-requires c κs = search needs
@@ -154,14 +160,14 @@ loop-less c = omega arith
 loop-again : tie.Need-loop-again Inv-loop μ-loop
 loop-again c =
     let at = c .before .before .before .before in
-    let k = known (at .before .before .before .before) (λ (e : Hint). lessF (e .«cs_coord») (at .before .first .result .«cs_coord»)) in
+    let k = known (at .before .before) (λ (e : Hint). lessF (e .«cs_coord») (at .before .first .result .«cs_coord»)) in
     (omega arith, at .loop .inv .1 ∙ k .passes _ _ (c .before .before .before .loop-test .taken) (c .before .less .ensures) (c .if2 .left))
 
 mul-x-2 : tie.Need-mul-x-2 Inv-loop μ-loop
-mul-x-2 c = omega arith
+mul-x-2 c = omega (arith, within (c .before))
 
 element-copy-out-x-2 : tie.Need-element-copy-out-x-2 Inv-loop μ-loop
-element-copy-out-x-2 c = omega arith
+element-copy-out-x-2 c = omega (arith, within (c .before))
 
 barred-requires : tie.Need-barred-requires Inv-loop μ-loop
 barred-requires c κs = search needs
@@ -169,8 +175,8 @@ barred-requires c κs = search needs
 returns-2 : tie.Need-returns-2 Inv-loop μ-loop
 returns-2 c =
     let l = c .before .before .before .before in
-    let a = begin l .args in
-    let k = known (begin l) (λ (x : Hint). bars x (edges l)) in
+    let a = begin (entered l) .args in
+    let k = known (entered l) (λ (x : Hint). bars x (edges l)) in
     sym (drops (map l) (edges l) (a .initial) (a .given) .character (char-is l ∙ sym (k .clear _ (c .before .before .before .if3 .taken) (c .before .barred .ensures)) ∙ ap not (c .if4 .taken)))
 
 is-free-requires : tie.Need-is-free-requires Inv-loop μ-loop

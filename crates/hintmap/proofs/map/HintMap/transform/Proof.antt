@@ -3,14 +3,16 @@
 use borrow.Author.Needs.{needs}
 use mathlib.Core.Path.{_≡_, sym, ap, _∙_}
 use mathlib.Core.Bool.{false, _&&_, true≢false}
+use mathlib.Core.List.{List}
 use mathlib.Core.Logic.{⊎-elim}
-use Prim.Native.Nat.{ℕ, _<_, _-_, _+_}
+use Prim.Native.Nat.{ℕ, _≤_, _<_, _-_, _+_}
 use native.Mathlib.Omega.{arith}
-use lib.ListN.{drop, getD}
+use lib.ListN.{length, take, drop, getD}
 use lib.Dec.{eqb}
 use borrow.Author.Tests.{ne-eqb, not-false}
 use Rattle.fixed.specs.declared.Fixed.{Fixed}
 use Rattle.fixed.specs.Fixed.{lessF, atMostF}
+use Rattle.fixed.proofs.Counts.{take-least}
 use Rattle.stems.specs.declared.edge.Hint.{Hint}
 use Rattle.hintmap.specs.declared.map.HintMap.{HintMap}
 use Rattle.stems.specs.Edge.{noHint}
@@ -20,43 +22,66 @@ use Rattle.hintmap.proofs.Walk.{no-way-back, map-some}
 use Rattle.hintmap.proofs.map.HintMap.transform.Statement.{statement}
 use Rattle.hintmap.proofs.map.HintMap.transform.Tie as tie
 
+-- a map cut to some length
+abbrev cut : HintMap → ℕ → HintMap
+cut m n = record { edges = m .edges; len = n; «is_valid» = m .«is_valid»; scale = m .scale }
+
 abbrev Inv-loop : tie.InvT-loop
 Inv-loop height self len i₀ i =
-    (i < self .len) × (reach (drop 1 (view self)) height ≡ i + reach (drop (i + 1) (view self)) height)
+    (i < len) × ((len ≤ 96) × (reach (drop 1 (view (cut self len))) height ≡ i + reach (drop (i + 1) (view (cut self len))) height))
 
 abbrev μ-loop : tie.MeasureT-loop
-μ-loop height self len i₀ i = self .len - i
+μ-loop height self len i₀ i = len - i
 
 abbrev Inv-loop2 : tie.InvT-loop2
-Inv-loop2 height self len i₀ i = (i < self .len) × (i ≡ reach (drop 1 (view self)) height)
+Inv-loop2 height self len i₀ i = (i < len) × ((len ≤ 96) × (i ≡ reach (drop 1 (view (cut self len))) height))
 
 abbrev μ-loop2 : tie.MeasureT-loop2
 μ-loop2 height self len i₀ i = i
 
--- what the walk up asks of the edges
-known : (s : tie.Start Inv-loop μ-loop Inv-loop2 μ-loop2) → Asked (s .args .t1) (λ (e : Hint). atMostF (e .«cs_coord») (s .args .height))
-known s = asked (s .args .t1) (s .good .0 .1 .1 .0 .1 .0 .1) (s .pre) _
+-- the map with its length cut to its room, whose edges are those of the map
+module _ (c : tie.After-least Inv-loop μ-loop Inv-loop2 μ-loop2) where
+  abbrev held : HintMap
+  held = cut (c .before .args .t1) (c .least .result)
+
+  long : length (held .edges) ≡ 96
+  long = held-long (c .before .args .t1) (c .before .good .0 .1 .1 .0 .1 .0 .1)
+
+  room : c .least .result ≤ 96
+  room = omega (arith, c .least .ensures)
+
+  same : view (c .before .args .t1) ≡ view held
+  same = sym (ap (λ (n : ℕ). take n (held .edges)) (c .least .ensures) ∙ take-least (c .before .args .t1 .len) 96 (held .edges) long)
+
+  -- what the walk up asks of the edges
+  known : Asked held (λ (e : Hint). atMostF (e .«cs_coord») (c .before .args .height))
+  known = asked held (c .before .good .0 .1 .1 .0 .1 .0 .1) room _
 
 -- what is known where the walk up has ended
 module _ (c : tie.At-loop2 Inv-loop μ-loop Inv-loop2 μ-loop2) where
-  abbrev begin : tie.Start Inv-loop μ-loop Inv-loop2 μ-loop2
+  abbrev begin : tie.After-least Inv-loop μ-loop Inv-loop2 μ-loop2
   begin = c .before .before .before .before
 
   abbrev map : HintMap
-  map = begin .args .t1
+  map = held begin
 
   abbrev at : Fixed
-  at = begin .args .height
+  at = begin .before .args .height
 
   -- the line that is taken, by the place of the edge
   abbrev taken : ℕ → Fixed
   taken k = lineBy (eqb k 0 && lessF at (getD (map .edges) 0 noHint .«cs_coord»)) (getD (map .edges) 0 noHint) (getD (map .edges) k noHint) (map .scale) at
 
-  mapped : mapOf (view map) (map .scale) at ≡ taken (c .loop2 .i)
-  mapped = map-some (map .edges) (map .len) (map .scale) at (omega arith) (omega (arith, held-long map (begin .good .0 .1 .1 .0 .1 .0 .1))) ∙ ap taken (sym (c .loop2 .inv .1))
+  mapped : mapOf (view (begin .before .args .t1)) (map .scale) at ≡ taken (c .loop2 .i)
+  mapped =
+      ap (λ (es : List Hint). mapOf es (map .scale) at) (same begin) ∙ map-some (map .edges) (map .len) (map .scale) at (omega arith) (omega (arith, long begin)) ∙
+      ap taken (sym (c .loop2 .inv .1 .1))
 
   no-way : 0 < c .loop2 .i → lessF at (getD (map .edges) (c .loop2 .i) noHint .«cs_coord») ≡ false
-  no-way p = no-way-back (map .edges) (map .len) at (c .loop2 .i) (c .loop2 .inv .1) p (c .loop2 .inv .0)
+  no-way p = no-way-back (map .edges) (map .len) at (c .loop2 .i) (c .loop2 .inv .1 .1) p (c .loop2 .inv .0)
+
+least-requires : tie.Need-least-requires Inv-loop μ-loop Inv-loop2 μ-loop2
+least-requires c κs = search needs
 
 mul-requires : tie.Need-mul-requires Inv-loop μ-loop Inv-loop2 μ-loop2
 mul-requires c κs = search needs
@@ -64,11 +89,13 @@ mul-requires c κs = search needs
 returns : tie.Need-returns Inv-loop μ-loop Inv-loop2 μ-loop2
 unfolding mapOf
 returns c =
-    let z : c .before .before .before .args .t1 .len ≡ 0 = search needs in
-    rw z (c .mul .ensures)
+    let l = c .before .before .before in
+    let z : l .least .result ≡ 0 = search needs in
+    let e = same l ∙ ap (λ (n : ℕ). take n (l .before .args .t1 .edges)) z in
+    rw e (c .mul .ensures)
 
 loop-holds : tie.Need-loop-holds Inv-loop μ-loop Inv-loop2 μ-loop2
-loop-holds c = (omega arith, omega arith)
+loop-holds c = (omega arith, (room (c .before), omega arith))
 
 add-loop : tie.Need-add-loop Inv-loop μ-loop Inv-loop2 μ-loop2
 add-loop c = omega arith
@@ -94,13 +121,13 @@ loop-less c = omega arith
 loop-again : tie.Need-loop-again Inv-loop μ-loop Inv-loop2 μ-loop2
 loop-again c =
     let at = c .before .before .before .before in
-    (search needs, at .loop .inv .1 ∙ known (at .before .before) .passes _ _ (c .before .before .before .loop-test .taken) (c .before .at-most .ensures) (c .if2 .left))
+    (search needs, (at .loop .inv .1 .0, at .loop .inv .1 .1 ∙ known (at .before .before) .passes _ _ (c .before .before .before .loop-test .taken) (c .before .at-most .ensures) (c .if2 .left)))
 
 loop2-holds : tie.Need-loop2-holds Inv-loop μ-loop Inv-loop2 μ-loop2
 loop2-holds c =
     let at = c .before in (
       at .loop .inv .0,
-      sym (at .loop .inv .1 ∙ ⊎-elim (λ t. known (at .before .before) .ends _ _ (t .left)) (λ t. known (at .before .before) .stops _ _ (t .0 .taken) (t .2 .ensures) (t .3 .taken)) (c .loop-test .came)),
+      (at .loop .inv .1 .0, sym (at .loop .inv .1 .1 ∙ ⊎-elim (λ t. known (at .before .before) .ends _ _ (t .left)) (λ t. known (at .before .before) .stops _ _ (t .0 .taken) (t .2 .ensures) (t .3 .taken)) (c .loop-test .came))),
     )
 
 mul-edge : tie.Need-mul-edge Inv-loop μ-loop Inv-loop2 μ-loop2
@@ -170,6 +197,7 @@ transform-spec =
     μ-loop
     Inv-loop2
     μ-loop2
+    least-requires
     mul-requires
     returns
     loop-holds
