@@ -1,5 +1,4 @@
 pub mod Steps
-pub mod Room
 pub mod Rounds
 pub mod Saved
 pub mod Sound

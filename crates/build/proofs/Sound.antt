@@ -19,7 +19,7 @@ use Rattle.adjust.proofs.Keeps.{adjust-kept, kept-length, adjust-stems}
 use Rattle.build.specs.declared.place.Placed.{Placed}
 use Rattle.build.specs.declared.place.Stems.{Stems}
 use Rattle.build.specs.Ghosts.{baselined}
-use Rattle.build.specs.Place.{declaredIn, lockedTurn, freeTurn, lockedTurns, freeTurns}
+use Rattle.build.specs.Place.{declaredIn, lockedTurns, freeTurns}
 use Rattle.build.specs.Build.{boxedMap, initialPlaced, placedOf, initialOf, builtOf}
 use Rattle.build.proofs.Steps.{Stable, boxed-keeps, baselined-keeps, locked-keeps, free-keeps}
 use Rattle.build.proofs.Rounds.{locked-round, free-round, round-keeps}
@@ -48,22 +48,17 @@ module _ (P : HintMap → Type 0) (keep : Stable P) where
     placed-holds mask initial = free-turns-keep st initial 0 (declaredIn ss) _ (locked-turns-keep st initial true 0 (declaredIn ss) _ (boxed-holds initial true))
 
 -- ---- in order
--- a turn of the first round keeps the map in order
-pub locked-turn-good : (st : HintState) (initial : HintMap) (given : Bool) (p : Placed) (i : ℕ) (x : StemHint) → Good (p .map) → Good (lockedTurn st initial given p i x .map)
-locked-turn-good = locked-keeps Good insert-good
+-- what both builds adjust is in order
+pub initial-placed-good : (st : HintState) (ss : Stems) → Good (initialPlaced st ss .map)
+initial-placed-good st ss = locked-turns-keep Good insert-good st _ _ 0 (declaredIn ss) _ (boxed-holds Good insert-good st ss (new-good (st .scale)) _ _)
 
--- so does a turn of the second
-pub free-turn-good : (st : HintState) (initial : HintMap) (p : Placed) (i : ℕ) (x : StemHint) → Good (p .map) → Good (freeTurn st initial p i x .map)
-free-turn-good = free-keeps Good insert-good
+pub baselined-good : (m : HintMap) → Good m → Good (baselined m)
+baselined-good = baselined-keeps Good insert-good
 
--- so does a whole round
-pub locked-turns-good : (st : HintState) (initial : HintMap) (given : Bool) (i : ℕ) (xs : List StemHint) (p : Placed) → Good (p .map) → Good (lockedTurns st initial given i xs p .map)
-locked-turns-good = locked-turns-keep Good insert-good
+pub placed-good : (st : HintState) (mask : HintMask) (initial : HintMap) (ss : Stems) → Good (placedOf st mask initial ss)
+placed-good st mask initial ss = placed-holds Good insert-good st ss (new-good (st .scale)) mask initial
 
-pub free-turns-good : (st : HintState) (initial : HintMap) (i : ℕ) (xs : List StemHint) (p : Placed) → Good (p .map) → Good (freeTurns st initial i xs p .map)
-free-turns-good = free-turns-keep Good insert-good
-
--- so does the adjustment
+-- the adjustment keeps it in order
 pub adjust-good : (m : HintMap) → Good m → Good (adjustOf m)
 adjust-good m g =
     let k = adjust-kept m in
@@ -72,13 +67,12 @@ adjust-good m g =
 -- the initial map is in order
 pub initial-good : (st : HintState) (ss : Stems) → Good (initialOf st ss)
 unfolding initialOf
-initial-good st ss =
-    valid-good _ (adjust-good _ (initial-holds Good insert-good st ss (new-good (st .scale))))
+initial-good st ss = valid-good _ (adjust-good _ (baselined-good _ (initial-placed-good st ss)))
 
 -- so is every other map
 pub built-good : (st : HintState) (mask : HintMask) (initial : HintMap) (ss : Stems) → Good (builtOf st mask initial ss .map)
 unfolding builtOf
-built-good st mask initial ss = valid-good _ (adjust-good _ (placed-holds Good insert-good st ss (new-good (st .scale)) mask initial))
+built-good st mask initial ss = valid-good _ (adjust-good _ (placed-good st mask initial ss))
 
 -- ---- valid, and of the state's scale
 -- both builds give a valid map

@@ -43,7 +43,6 @@ fn em_top(scale: Fixed) -> Hint
 
 // From `build`: the em box's ghosts are put in, where it is asked for.
 pub(crate) fn with_em_box(map: HintMap, wanted: bool, initial: HintMap, given: bool) -> HintMap
-    requires { ⌜ (map .len ≤ 96) × (initial .len ≤ 96) ⌝ }
     ensures { λ r. ⌜ r ≡ emBoxed wanted initial given map ⌝ }
 {
     if wanted {

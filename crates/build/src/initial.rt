@@ -9,12 +9,10 @@ use hintmap::HintMap;
 use stems::HintMask;
 use zones::HintState;
 ghost use mathlib.Core.Path.{_≡_};
-ghost use Prim.Native.Nat.{_≤_};
 ghost use Rattle.build.specs.Build.{initialOf};
 
 // Ports `build` where it is the initial map's: all stems that are locked or captured, and the baseline.
 pub fn build_initial(state: HintState, stems: Stems) -> HintMap
-    requires { ⌜ (stems .count ≤ 96) × (state .«zone_count» ≤ 12) ⌝ }
     ensures { λ r. ⌜ r ≡ initialOf state stems ⌝ }
 {
     let none = HintMap::new(state.scale);

@@ -1,4 +1,5 @@
 // Placing the edges of stems.
+use fixed::least;
 use hintmap::Edges;
 use hintmap::HintMap;
 use stems::Hint;
@@ -7,7 +8,6 @@ use stems::StemHint;
 use zones::Captured;
 use zones::HintState;
 ghost use mathlib.Core.Path.{_≡_};
-ghost use Prim.Native.Nat.{_≤_};
 ghost use Rattle.build.specs.Place.{declaredIn, readyOf, lockedTurns, freeTurns};
 
 // The stems that are declared.
@@ -24,7 +24,6 @@ pub struct Placed {
 
 // From `build`: a stem's edges, and whether they are locked or captured.
 fn ready(state: HintState, stem: StemHint, index: u8) -> Captured
-    requires { ⌜ state .«zone_count» ≤ 12 ⌝ }
     ensures { λ r. ⌜ r ≡ readyOf state stem index ⌝ }
 {
     let bottom = Hint::setup(stem, index, state.scale, true);
@@ -54,12 +53,11 @@ pub(crate) fn place_locked(
     initial: HintMap,
     given: bool,
 ) -> Placed
-    requires { ⌜ (p .map .len ≤ 96) × ((initial .len ≤ 96) × ((stems .count ≤ 96) × (state .«zone_count» ≤ 12))) ⌝ }
     ensures { λ r. ⌜ r ≡ lockedTurns state initial given 0 (declaredIn stems) p ⌝ }
 {
     let mut map = p.map;
     let mut rest = p.rest;
-    let count = stems.count;
+    let count = least(stems.count, 96);
     for i in 0..count {
         if !rest.get(i) {
             continue;
@@ -79,12 +77,11 @@ pub(crate) fn place_locked(
 
 // From `build`: the second round, over the stems that are left.
 pub(crate) fn place_free(p: Placed, state: HintState, stems: Stems, initial: HintMap) -> Placed
-    requires { ⌜ (p .map .len ≤ 96) × ((initial .len ≤ 96) × (stems .count ≤ 96)) ⌝ }
     ensures { λ r. ⌜ r ≡ freeTurns state initial 0 (declaredIn stems) p ⌝ }
 {
     let mut map = p.map;
     let rest = p.rest;
-    let count = stems.count;
+    let count = least(stems.count, 96);
     for i in 0..count {
         if !rest.get(i) {
             continue;

@@ -59,7 +59,6 @@ fn save_all(stems: Stems, map: HintMap) -> Stems
 
 // Ports `build` where it is not the initial map's: active stems that are locked or captured, then those that are left.
 pub fn build_map(state: HintState, mask: HintMask, stems: Stems, initial: HintMap) -> Built
-    requires { ⌜ (stems .count ≤ 96) × ((initial .len ≤ 96) × (state .«zone_count» ≤ 12)) ⌝ }
     ensures { λ r. ⌜ r ≡ builtOf state mask initial stems ⌝ }
 {
     let none = HintMap::new(state.scale);

@@ -1,6 +1,5 @@
--- `with_em_box` meets its contract, by those of its calls; the first edge keeps within the room. Assumes nothing.
+-- `with_em_box` meets its contract, by those of its calls. Assumes nothing.
 use Rattle.build.specs.Ghosts.{emBoxed}
-use Rattle.build.proofs.Room.{insert-len}
 use borrow.Author.Needs.{needs}
 use Rattle.build.proofs.ghosts.with_em_box.Statement.{statement}
 use Rattle.build.proofs.ghosts.with_em_box.Tie as tie
@@ -27,9 +26,7 @@ insert-requires : tie.Need-insert-requires
 insert-requires c κs = search needs
 
 insert-requires-2 : tie.Need-insert-requires-2
-insert-requires-2 c κs =
-    let s = c .before .before .before .before .before .before .before .before .before in
-    (rw (c .insert .ensures) (insert-len _ _ _ _ (s .pre .0)), s .pre .1)
+insert-requires-2 c κs = search needs
 
 returns : tie.Need-returns
 unfolding emBoxed

@@ -1,13 +1,16 @@
--- `place_free` meets its contract. The loop's invariant: the turns that are left, taken from stem `i` on, give what all give, and the map keeps within its room.
--- What each way through a turn leaves is what the definition's turn gives. The measure is what is left of the count. Assumes nothing.
-use mathlib.Core.Path.{_≡_, refl, sym}
-use Prim.Native.Nat.{_+_, _-_, _≤_, _<_}
+-- `place_free` meets its contract. The loop's invariant: the turns that are left, taken from stem `i` on, give what all give.
+-- What each way through a turn leaves is what the definition's turn gives. The measure is what is left of the count, which is cut to the room for stems. Assumes nothing.
+use mathlib.Core.Path.{_≡_, sym, ap, _∙_}
+use mathlib.Core.List.{List}
+use Prim.Native.Nat.{ℕ, _+_, _-_, _≤_, _<_}
 use native.Mathlib.Omega.{arith}
-use lib.ListN.{length, getD, length-map}
+use lib.ListN.{length, take, getD, length-map}
 use borrow.Author.Needs.{needs}
 use borrow.Author.Tests.{not-true, not-false}
+use Rattle.fixed.proofs.Counts.{take-least}
+use Rattle.stems.specs.declared.edge.StemHint.{StemHint}
 use Rattle.build.specs.declared.place.Placed.{Placed}
-use Rattle.build.specs.Place.{freeTurn, freeTurns}
+use Rattle.build.specs.Place.{declaredIn, freeTurn, freeTurns}
 use Rattle.build.specs.Build.{noStem}
 use Rattle.build.proofs.Rounds.{Left, free-round, left-more, left-ends}
 use Rattle.build.proofs.place.place_free.Statement.{statement}
@@ -15,33 +18,49 @@ use Rattle.build.proofs.place.place_free.Tie as tie
 
 abbrev Inv-loop : tie.InvT-loop
 Inv-loop state initial stems map₀ rest count i₀ map i =
-    Left (freeTurns state initial) stems (record { map = map₀; rest = rest }) (record { map = map; rest = rest }) i
+    Left (freeTurns state initial) stems count (record { map = map₀; rest = rest }) (record { map = map; rest = rest }) i
 
 abbrev μ-loop : tie.MeasureT-loop
 μ-loop state initial stems map₀ rest count i₀ map i = count - i
 
 -- each stem that is declared has its place
-room : (s : tie.Start Inv-loop μ-loop) → s .args .t3 .count ≤ length (s .args .t3 .list)
-room s = omega (arith, simp length-map at (s .good .1 .1 .0 .1 .1 .0 .1 .0 .1))
+module _ (c : tie.After-least Inv-loop μ-loop) where
+  abbrev begin : tie.Start Inv-loop μ-loop
+  begin = c .before .before .before
+
+  room : length (begin .args .t3 .list) ≡ 96
+  room = simp length-map at (begin .good .1 .1 .0 .1 .1 .0 .1 .0 .1)
+
+  few : c .least .result ≤ length (begin .args .t3 .list)
+  few = omega (arith, room, c .least .ensures)
+
+  all : take (c .least .result) (begin .args .t3 .list) ≡ declaredIn (begin .args .t3)
+  all = ap (λ (n : ℕ). take n (begin .args .t3 .list)) (c .least .ensures) ∙ take-least (begin .args .t3 .count) 96 (begin .args .t3 .list) room
 
 -- ---- the stem whose turn it is
 module _ (c : tie.In-loop Inv-loop μ-loop) where
+  abbrev cut : tie.After-least Inv-loop μ-loop
+  cut = c .before .before
+
   abbrev start : tie.Start Inv-loop μ-loop
-  start = c .before .before .before .before
+  start = begin cut
 
   abbrev soFar : Placed
   soFar = record { map = c .before .loop .map; rest = start .args .p .rest }
 
   inside : c .before .loop .i < 96
-  inside = omega arith
+  inside = omega (arith, cut .least .ensures)
 
   -- whatever its turn leaves, the turns after it are left
   again : (q : Placed) → freeTurn (start .args .state) (start .args .initial) soFar (c .before .loop .i) (getD (start .args .t3 .list) (c .before .loop .i) noStem) ≡ q →
-      Left (freeTurns (start .args .state) (start .args .initial)) (start .args .t3) (start .args .p) q (c .before .loop .i + 1)
-  again q = left-more (free-round (start .args .state) (start .args .initial)) (start .args .t3) _ soFar q (c .before .loop .i) noStem (room start) (omega arith) (c .before .loop .inv)
+      Left (freeTurns (start .args .state) (start .args .initial)) (start .args .t3) (cut .least .result) (start .args .p) q (c .before .loop .i + 1)
+  again q = left-more (free-round (start .args .state) (start .args .initial)) (start .args .t3) (cut .least .result) (few cut) _ soFar q (c .before .loop .i) noStem (omega arith) (c .before .loop .inv)
+
+least-requires : tie.Need-least-requires Inv-loop μ-loop
+least-requires c κs = search needs
 
 loop-holds : tie.Need-loop-holds Inv-loop μ-loop
-loop-holds c = (refl, (search needs, search needs))
+loop-holds c = (ap (λ (l : List StemHint). freeTurns (begin c .args .state) (begin c .args .initial) 0 l (begin c .args .p)) (all c), search needs)
 
 get-requires : tie.Need-get-requires Inv-loop μ-loop
 get-requires c κs = search needs
@@ -99,8 +118,9 @@ loop-again-2 c =
 returns : tie.Need-returns Inv-loop μ-loop
 returns c =
     let at = c .before in
-    let s = at .before .before .before in
-    left-ends (free-round (s .args .state) (s .args .initial)) (s .args .t3) (s .args .p) _ (at .loop .i) (room s) (search needs) (at .loop .inv)
+    let k = at .before in
+    let s = begin k in
+    left-ends (free-round (s .args .state) (s .args .initial)) (s .args .t3) (k .least .result) (few k) (s .args .p) _ (at .loop .i) (search needs) (at .loop .inv)
 
 pub place-free-spec : {M : Type 1} → statement M
 place-free-spec =
@@ -108,6 +128,7 @@ place-free-spec =
     (tie.spec
     Inv-loop
     μ-loop
+    least-requires
     loop-holds
     get-requires
     add-i

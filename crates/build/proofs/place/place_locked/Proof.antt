@@ -1,13 +1,16 @@
--- `place_locked` meets its contract. The loop's invariant: the turns that are left, taken from stem `i` on, give what all give, and the map keeps within its room.
--- What each way through a turn leaves is what the definition's turn gives. The measure is what is left of the count. Assumes nothing.
-use mathlib.Core.Path.{_≡_, refl, sym}
-use Prim.Native.Nat.{_+_, _-_, _≤_, _<_}
+-- `place_locked` meets its contract. The loop's invariant: the turns that are left, taken from stem `i` on, give what all give.
+-- What each way through a turn leaves is what the definition's turn gives. The measure is what is left of the count, which is cut to the room for stems. Assumes nothing.
+use mathlib.Core.Path.{_≡_, sym, ap, _∙_}
+use mathlib.Core.List.{List}
+use Prim.Native.Nat.{ℕ, _+_, _-_, _≤_, _<_}
 use native.Mathlib.Omega.{arith}
-use lib.ListN.{length, getD, length-map}
+use lib.ListN.{length, take, getD, length-map}
 use borrow.Author.Needs.{needs}
 use borrow.Author.Tests.{not-true, not-false}
+use Rattle.fixed.proofs.Counts.{take-least}
+use Rattle.stems.specs.declared.edge.StemHint.{StemHint}
 use Rattle.build.specs.declared.place.Placed.{Placed}
-use Rattle.build.specs.Place.{lockedTurn, lockedTurns}
+use Rattle.build.specs.Place.{declaredIn, lockedTurn, lockedTurns}
 use Rattle.build.specs.Build.{noStem}
 use Rattle.build.proofs.Rounds.{Left, locked-round, left-more, left-ends}
 use Rattle.build.proofs.place.place_locked.Statement.{statement}
@@ -15,33 +18,49 @@ use Rattle.build.proofs.place.place_locked.Tie as tie
 
 abbrev Inv-loop : tie.InvT-loop
 Inv-loop state initial given stems map₀ rest₀ count i₀ map rest i =
-    Left (lockedTurns state initial given) stems (record { map = map₀; rest = rest₀ }) (record { map = map; rest = rest }) i
+    Left (lockedTurns state initial given) stems count (record { map = map₀; rest = rest₀ }) (record { map = map; rest = rest }) i
 
 abbrev μ-loop : tie.MeasureT-loop
 μ-loop state initial given stems map₀ rest₀ count i₀ map rest i = count - i
 
 -- each stem that is declared has its place
-room : (s : tie.Start Inv-loop μ-loop) → s .args .t3 .count ≤ length (s .args .t3 .list)
-room s = omega (arith, simp length-map at (s .good .1 .1 .0 .1 .1 .0 .1 .0 .1))
+module _ (c : tie.After-least Inv-loop μ-loop) where
+  abbrev begin : tie.Start Inv-loop μ-loop
+  begin = c .before .before .before
+
+  room : length (begin .args .t3 .list) ≡ 96
+  room = simp length-map at (begin .good .1 .1 .0 .1 .1 .0 .1 .0 .1)
+
+  few : c .least .result ≤ length (begin .args .t3 .list)
+  few = omega (arith, room, c .least .ensures)
+
+  all : take (c .least .result) (begin .args .t3 .list) ≡ declaredIn (begin .args .t3)
+  all = ap (λ (n : ℕ). take n (begin .args .t3 .list)) (c .least .ensures) ∙ take-least (begin .args .t3 .count) 96 (begin .args .t3 .list) room
 
 -- ---- the stem whose turn it is
 module _ (c : tie.In-loop Inv-loop μ-loop) where
+  abbrev cut : tie.After-least Inv-loop μ-loop
+  cut = c .before .before
+
   abbrev start : tie.Start Inv-loop μ-loop
-  start = c .before .before .before .before
+  start = begin cut
 
   abbrev soFar : Placed
   soFar = record { map = c .before .loop .map; rest = c .before .loop .rest }
 
   inside : c .before .loop .i < 96
-  inside = omega arith
+  inside = omega (arith, cut .least .ensures)
 
   -- whatever its turn leaves, the turns after it are left
   again : (q : Placed) → lockedTurn (start .args .state) (start .args .initial) (start .args .given) soFar (c .before .loop .i) (getD (start .args .t3 .list) (c .before .loop .i) noStem) ≡ q →
-      Left (lockedTurns (start .args .state) (start .args .initial) (start .args .given)) (start .args .t3) (start .args .p) q (c .before .loop .i + 1)
-  again q = left-more (locked-round (start .args .state) (start .args .initial) (start .args .given)) (start .args .t3) _ soFar q (c .before .loop .i) noStem (room start) (omega arith) (c .before .loop .inv)
+      Left (lockedTurns (start .args .state) (start .args .initial) (start .args .given)) (start .args .t3) (cut .least .result) (start .args .p) q (c .before .loop .i + 1)
+  again q = left-more (locked-round (start .args .state) (start .args .initial) (start .args .given)) (start .args .t3) (cut .least .result) (few cut) _ soFar q (c .before .loop .i) noStem (omega arith) (c .before .loop .inv)
+
+least-requires : tie.Need-least-requires Inv-loop μ-loop
+least-requires c κs = search needs
 
 loop-holds : tie.Need-loop-holds Inv-loop μ-loop
-loop-holds c = (refl, (search needs, search needs))
+loop-holds c = (ap (λ (l : List StemHint). lockedTurns (begin c .args .state) (begin c .args .initial) (begin c .args .given) 0 l (begin c .args .p)) (all c), search needs)
 
 get-requires : tie.Need-get-requires Inv-loop μ-loop
 get-requires c κs = search needs
@@ -91,7 +110,7 @@ insert-requires : tie.Need-insert-requires Inv-loop μ-loop
 insert-requires c κs = search needs
 
 clear-requires : tie.Need-clear-requires Inv-loop μ-loop
-clear-requires c κs = inside (c .before .before .before .before .before .before .before .before .before .before)
+clear-requires c κs = search needs
 
 add-i-3 : tie.Need-add-i-3 Inv-loop μ-loop
 add-i-3 c = omega (arith, inside (c .before .before .before .before .before .before .before .before .before .before .before))
@@ -112,8 +131,9 @@ loop-again-3 c =
 returns : tie.Need-returns Inv-loop μ-loop
 returns c =
     let at = c .before in
-    let s = at .before .before .before in
-    left-ends (locked-round (s .args .state) (s .args .initial) (s .args .given)) (s .args .t3) (s .args .p) _ (at .loop .i) (room s) (search needs) (at .loop .inv)
+    let k = at .before in
+    let s = begin k in
+    left-ends (locked-round (s .args .state) (s .args .initial) (s .args .given)) (s .args .t3) (k .least .result) (few k) (s .args .p) _ (at .loop .i) (search needs) (at .loop .inv)
 
 pub place-locked-spec : {M : Type 1} → statement M
 place-locked-spec =
@@ -121,6 +141,7 @@ place-locked-spec =
     (tie.spec
     Inv-loop
     μ-loop
+    least-requires
     loop-holds
     get-requires
     add-i

@@ -1,61 +1,50 @@
--- `build_map` meets its contract, by those of its calls; no step leaves the room. Assumes nothing.
-use Prim.Native.Nat.{_≤_}
-use native.Mathlib.Omega.{arith}
-use Rattle.adjust.proofs.Keeps.{adjust-kept}
-use Rattle.build.specs.Build.{builtOf}
-use Rattle.build.proofs.Room.{boxed-len}
-use Rattle.build.proofs.Rounds.{locked-round, free-round, round-len}
+-- `build_map` meets its contract, by those of its calls; what it adjusts and saves is in order. Assumes nothing.
+use mathlib.Core.Path.{_≡_, ap}
+use Rattle.hintmap.proofs.Stems.{Good}
+use Rattle.build.specs.declared.place.Placed.{Placed}
+use Rattle.build.specs.Build.{placedOf, builtOf}
+use Rattle.build.proofs.Sound.{placed-good, adjust-good}
 use borrow.Author.Needs.{needs}
 use Rattle.build.proofs.save.build_map.Statement.{statement}
 use Rattle.build.proofs.save.build_map.Tie as tie
 
--- what each step gives has room
-none-len : (c : tie.After-new) → c .new .result .len ≤ 96
-none-len c = rw (c .new .ensures) (omega arith)
+-- what both rounds leave
+module _ (c : tie.After-place-free) where
+  abbrev begin : tie.Start
+  begin = c .before .before .before .before
 
-box-len : (c : tie.After-with-em-box) → c .with-em-box .result .len ≤ 96
-box-len c = rw (c .with-em-box .ensures) (boxed-len _ _ _ _ (none-len (c .before)))
+  placed : c .place-free .result .map ≡ placedOf (begin .args .state) (begin .args .mask) (begin .args .initial) (begin .args .stems)
+  placed = ap (λ (q : Placed). q .map) (rw (c .before .place-locked .ensures, c .before .before .with-em-box .ensures, c .before .before .before .new .ensures) at (c .place-free .ensures))
 
-locked-len : (c : tie.After-place-locked) → c .place-locked .result .map .len ≤ 96
-locked-len c = rw (c .place-locked .ensures) (round-len (locked-round _ _ _) 0 _ _ (box-len (c .before)))
-
-placed-len : (c : tie.After-place-free) → c .place-free .result .map .len ≤ 96
-placed-len c = rw (c .place-free .ensures) (round-len (free-round _ _) 0 _ _ (locked-len (c .before)))
+  good : Good (placedOf (begin .args .state) (begin .args .mask) (begin .args .initial) (begin .args .stems))
+  good = placed-good (begin .args .state) (begin .args .mask) (begin .args .initial) (begin .args .stems)
 
 new-requires : tie.Need-new-requires
 new-requires c κs = search needs
 
 with-em-box-requires : tie.Need-with-em-box-requires
-with-em-box-requires c κs = (none-len c, c .before .pre .1 .0)
+with-em-box-requires c κs = search needs
 
 place-locked-requires : tie.Need-place-locked-requires
-place-locked-requires c κs =
-    let p = c .before .before .pre in
-    (box-len c, (p .1 .0, (p .0, p .1 .1)))
+place-locked-requires c κs = search needs
 
 place-free-requires : tie.Need-place-free-requires
-place-free-requires c κs =
-    let p = c .before .before .before .pre in
-    (locked-len c, (p .1 .0, p .0))
+place-free-requires c κs = search needs
 
 adjust-requires : tie.Need-adjust-requires
-adjust-requires c κs = placed-len (c .before)
+adjust-requires c κs = rw (placed (c .before)) (good (c .before) .within)
 
 validate-requires : tie.Need-validate-requires
 validate-requires c κs = search needs
 
 save-all-requires : tie.Need-save-all-requires
-save-all-requires c κs =
-    let a = c .before in
-    rw (c .validate .ensures, a .adjust .ensures, adjust-kept (a .before .before .place-free .result .map) .len) (placed-len (a .before .before))
+save-all-requires c κs = rw (c .validate .ensures, c .before .adjust .ensures, placed (c .before .before .before)) (adjust-good _ (good (c .before .before .before)) .within)
 
 returns : tie.Need-returns
 unfolding builtOf
 returns c =
     let a = c .before .before in
-    let f = a .before .before in
-    let b = f .before .before in
-    rw (c .save-all .ensures, c .before .validate .ensures, a .adjust .ensures, f .place-free .ensures, f .before .place-locked .ensures, b .with-em-box .ensures, b .before .new .ensures)
+    rw (c .save-all .ensures, c .before .validate .ensures, a .adjust .ensures, placed (a .before .before))
 
 pub build-map-spec : {M : Type 1} → statement M
 build-map-spec =
