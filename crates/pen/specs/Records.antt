@@ -41,5 +41,5 @@ fits ws out = leb (length ws) (length out)
 
 -- the words are written if they fit, and else nothing is
 pub record Put (out : List ℤ) (r : Records) (said : Bool) (left : List ℤ) : Type 0 where
-  pub answer : said ≡ leb (r .count) (length out)
-  pub memory : left ≡ pickWords (leb (r .count) (length out)) (written (wordsOf r) out) out
+  pub answer : said ≡ fits (wordsOf r) out
+  pub memory : left ≡ pickWords (fits (wordsOf r) out) (written (wordsOf r) out) out

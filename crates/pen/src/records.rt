@@ -1,7 +1,8 @@
 // The record words of one call, and writing them.
 use crate::strokes::Point;
+use fixed::least;
 ghost use mathlib.Core.Path.{_≡_};
-ghost use Prim.Native.Nat.{_+_, _≤_, _<_};
+ghost use Prim.Native.Nat.{_+_, _<_};
 ghost use Rattle.pen.specs.Records.{noRecords, pushed, pushedPoint, Put};
 
 // Up to ten words, and how many of them count.
@@ -43,10 +44,9 @@ impl Records {
 
 // Writes the records to the start of what is lent, if they fit; else nothing.
 pub fn put(out: &mut [i32], records: Records) -> bool
-    requires { ⌜ records .count ≤ 10 ⌝ }
     ensures { λ r. ⌜ Put (now (out .entry)) records r (now (out .exit)) ⌝ }
 {
-    let n = records.count;
+    let n = least(records.count, 10);
     if out.len() < n {
         return false;
     }
