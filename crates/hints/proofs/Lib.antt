@@ -1,4 +1,3 @@
-pub mod Kept
 pub mod Steps
 pub mod Outcome
 pub mod Unique

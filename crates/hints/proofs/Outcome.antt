@@ -1,42 +1,49 @@
 -- What `put` says and leaves of a stroke's records is what was drawn. Assumes nothing.
 use mathlib.Core.Path.{_≡_, refl, sym, ap, _∙_}
-use mathlib.Core.Bool.{Bool, true, false}
+use mathlib.Core.Bool.{Bool, true, false, cond}
 use mathlib.Core.List.{List}
 use Prim.Native.Nat.{ℕ}
-use lib.Dec.{leb}
 use lib.IntN.{ℤ}
 use lib.ListN.{length}
 use Rattle.fixed.specs.declared.Fixed.{Fixed}
 use Rattle.hintmap.specs.declared.map.HintMap.{HintMap}
 use Rattle.pen.specs.declared.strokes.Pen.{Pen}
 use Rattle.pen.specs.declared.strokes.Stroke.{Stroke}
-use Rattle.pen.specs.Records.{wordsOf, pickWords, written, Put}
+use Rattle.pen.specs.Records.{wordsOf, Put}
 use Rattle.hints.specs.declared.path.Path.{Path}
 use Rattle.hints.specs.declared.path.Drawn.{Drawn}
 use Rattle.hints.specs.declared.path.Answer.the-variants.{Wrote, NoRoom}
-use Rattle.hints.specs.Path.{strokeBy, drawnBy, Drew}
+use Rattle.hints.specs.Path.{strokeBy, Drew}
 use Rattle.hints.proofs.Steps.{path-whole}
 
 -- what is answered with the count of a stroke's words
 abbrev pub countedBy : Bool → Pen → Stroke → Drawn
-countedBy true pen s = record { pen = s .pen; answer = Wrote (s .records .count) }
-countedBy false pen s = record { pen = pen; answer = NoRoom }
+countedBy true pen t = record { pen = t .pen; answer = Wrote (t .records .count) }
+countedBy false pen t = record { pen = pen; answer = NoRoom }
 
-module _ (m : HintMap) (s : Fixed) (pen : Pen) (path : Path) where
+module _ (m : HintMap) (s : Fixed) (from : Pen) (path : Path) where
   abbrev asked : Stroke
-  asked = strokeBy m s pen path
-
-  counted : (b : Bool) → countedBy b pen asked ≡ drawnBy b pen asked
-  counted true = ap (λ (k : ℕ). record { pen = asked .pen; answer = Wrote k }) (sym (path-whole m s pen path))
-  counted false = refl
+  asked = strokeBy m s from path
 
   -- what `put` says and leaves of a stroke's records is what was drawn
-  pub put-drew : (b : Bool) {t : Stroke} {out left : List ℤ} → t ≡ asked → Put out (t .records) b left → Drew m s pen path out (countedBy b pen t) left
-  put-drew b {out = out} {left = left} e p =
-      let n = sym (path-whole m s pen path) in
-      let q : Put out (asked .records) b left = rw e at p in
-      rw e
-      (record {
-        answer = counted b ∙ ap (λ (x : Bool). drawnBy x pen asked) (q .answer ∙ ap (λ (k : ℕ). leb k (length out)) n);
-        memory = q .memory ∙ ap (λ (k : ℕ). pickWords (leb k (length out)) (written (wordsOf (asked .records)) out) out) n;
-      })
+  pub put-drew : (b : Bool) {t : Stroke} {out left : List ℤ} → t ≡ asked → Put out (t .records) b left → Drew asked from out (countedBy b from t) left
+  put-drew b {t} {out} {left} e p = go b (rw e at p)
+    where
+      go : (b : Bool) → Put out (asked .records) b left → Drew asked from out (countedBy b from t) left
+      go true q =
+          rw e
+          (record {
+            number = ap (λ (x : Bool). cond x 0 6) (q .answer);
+            words = sym (path-whole m s from path) ∙ ap (λ (x : Bool). cond x (length (wordsOf (asked .records))) 0) (q .answer);
+            place = refl;
+            pen = ap (λ (x : Bool). cond x (asked .pen) from) (q .answer);
+            memory = q .memory;
+          })
+      go false q =
+          record {
+            number = ap (λ (x : Bool). cond x 0 6) (q .answer);
+            words = ap (λ (x : Bool). cond x (length (wordsOf (asked .records))) 0) (q .answer);
+            place = refl;
+            pen = ap (λ (x : Bool). cond x (asked .pen) from) (q .answer);
+            memory = q .memory;
+          }

@@ -1,8 +1,9 @@
 -- Laws of the steps of a drawing, for whoever repeats them: hints that are ready stay so, a path call writes at most ten words, and what its answer says. Assumes nothing.
 use mathlib.Core.Path.{_≡_, refl, sym, ap, _∙_}
-use mathlib.Core.Bool.{Bool, true, false}
+use mathlib.Core.Bool.{Bool, true, false, cond}
 use mathlib.Core.List.{List}
 use Prim.Native.Nat.{ℕ, _≤_}
+use native.Mathlib.Omega.{arith}
 use lib.IntN.{ℤ}
 use lib.ListN.{length}
 use Rattle.fixed.specs.declared.Fixed.{Fixed}
@@ -11,16 +12,18 @@ use Rattle.hintmap.specs.declared.map.HintMap.{HintMap}
 use Rattle.build.proofs.Sound.{built-valid}
 use Rattle.pen.specs.declared.records.Records.{Records}
 use Rattle.pen.specs.declared.strokes.Pen.{Pen}
-use Rattle.pen.specs.Records.{emitted, wordsOf, pickWords, written, fits}
+use Rattle.pen.specs.declared.strokes.Stroke.{Stroke}
+use Rattle.pen.specs.Records.{emitted, wordsOf, written, fits}
 use Rattle.pen.specs.Strokes.{moveOf, lineOf, curveOf, finishOf}
 use Rattle.pen.proofs.Words.{count-is, words-emitted, move-short, line-short, curve-short, finish-short}
 use Rattle.hints.specs.declared.hints.Hints.{Hints}
 use Rattle.hints.specs.declared.path.Path.{Path}
 use Rattle.hints.specs.declared.path.Path.the-variants.{Move, Line, Curve, Finish}
 use Rattle.hints.specs.declared.path.Drawn.{Drawn}
+use Rattle.hints.specs.declared.path.Answer.{Answer}
 use Rattle.hints.specs.declared.path.Answer.the-variants.{Wrote, NoRoom}
 use Rattle.hints.specs.Hints.{readyBy, readyOf}
-use Rattle.hints.specs.Path.{strokeBy, drawnBy, Drew}
+use Rattle.hints.specs.Path.{strokeBy, callNumber, callWords, Drew}
 
 -- ---- hints
 module _ (st : HintState) (h : Hints) where
@@ -69,37 +72,40 @@ module _ (m : HintMap) (s : Fixed) (pen : Pen) where
   pub words-short : (path : Path) → length (pathWords m s pen path) ≤ 10
   words-short path = rw (path-whole path) (path-short path)
 
--- ---- what the answer of a path call says
+-- ---- what the answer of a path call says of its stroke
 -- of a call that wrote so many words
-pub record DrewWords (m : HintMap) (s : Fixed) (from : Pen) (path : Path) (out : List ℤ) (said : Drawn) (k : ℕ) (exit : List ℤ) : Type 0 where
-  pub fit : fits (pathWords m s from path) out ≡ true
-  pub pen : said .pen ≡ strokeBy m s from path .pen
-  pub count : k ≡ length (pathWords m s from path)
-  pub left : exit ≡ written (pathWords m s from path) out
+pub record DrewWords (t : Stroke) (out : List ℤ) (said : Drawn) (k : ℕ) (exit : List ℤ) : Type 0 where
+  pub fit : fits (wordsOf (t .records)) out ≡ true
+  pub pen : said .pen ≡ t .pen
+  pub count : k ≡ length (wordsOf (t .records))
+  pub left : exit ≡ written (wordsOf (t .records)) out
 
 -- of a call that was refused
-pub record DrewNothing (m : HintMap) (s : Fixed) (from : Pen) (path : Path) (out : List ℤ) (said : Drawn) (exit : List ℤ) : Type 0 where
-  pub fit : fits (pathWords m s from path) out ≡ false
+pub record DrewNothing (t : Stroke) (from : Pen) (out : List ℤ) (said : Drawn) (exit : List ℤ) : Type 0 where
+  pub fit : fits (wordsOf (t .records)) out ≡ false
   pub pen : said .pen ≡ from
   pub left : exit ≡ out
 
-module _ {m : HintMap} {s : Fixed} {pen : Pen} {path : Path} {out : List ℤ} {said : Drawn} {left : List ℤ} (h : Drew m s pen path out said left) where
-  pub drew-wrote : (k : ℕ) → said .answer ≡ Wrote k → DrewWords m s pen path out said k left
-  drew-wrote k a = go (fits (pathWords m s pen path) out) refl (h .answer) (h .memory)
+module _ {t : Stroke} {from : Pen} {out : List ℤ} {said : Drawn} {exit : List ℤ} (h : Drew t from out said exit) where
+  pub drew-wrote : (k : ℕ) → said .answer ≡ Wrote k → DrewWords t out said k exit
+  drew-wrote k a = go (fits (wordsOf (t .records)) out) refl (ap callNumber (sym a) ∙ h .number) (ap callWords (sym a) ∙ h .words) (h .pen) (h .memory)
     where
-      go : (b : Bool) → fits (pathWords m s pen path) out ≡ b → said ≡ drawnBy b pen (strokeBy m s pen path) → left ≡ pickWords b (written (pathWords m s pen path) out) out → DrewWords m s pen path out said k left
-      go true f e l =
-          let w : Wrote (length (pathWords m s pen path)) ≡ Wrote k = sym (ap (λ (x : Drawn). x .answer) e) ∙ a in
-          record { fit = f; pen = ap (λ (x : Drawn). x .pen) e; count = cc; left = l }
-      go false f e l =
-          let w : NoRoom ≡ Wrote k = sym (ap (λ (x : Drawn). x .answer) e) ∙ a in
-          record { fit = cc; pen = cc; count = cc; left = cc }
+      go : (b : Bool) → fits (wordsOf (t .records)) out ≡ b → _≡_ {A = ℕ} 0 (cond b 0 6) → k ≡ cond b (length (wordsOf (t .records))) 0 → said .pen ≡ cond b (t .pen) from →
+          exit ≡ cond b (written (wordsOf (t .records)) out) out → DrewWords t out said k exit
+      go true f n w p l = record { fit = f; pen = p; count = w; left = l }
+      go false f n w p l = absurd (omega arith)
 
-  pub drew-refused : said .answer ≡ NoRoom → DrewNothing m s pen path out said left
-  drew-refused a = go (fits (pathWords m s pen path) out) refl (h .answer) (h .memory)
+  pub drew-refused : said .answer ≡ NoRoom → DrewNothing t from out said exit
+  drew-refused a = go (fits (wordsOf (t .records)) out) refl (ap callNumber (sym a) ∙ h .number) (h .pen) (h .memory)
     where
-      go : (b : Bool) → fits (pathWords m s pen path) out ≡ b → said ≡ drawnBy b pen (strokeBy m s pen path) → left ≡ pickWords b (written (pathWords m s pen path) out) out → DrewNothing m s pen path out said left
-      go true f e l =
-          let w : Wrote (length (pathWords m s pen path)) ≡ NoRoom = sym (ap (λ (x : Drawn). x .answer) e) ∙ a in
-          record { fit = cc; pen = cc; left = cc }
-      go false f e l = record { fit = f; pen = ap (λ (x : Drawn). x .pen) e; left = l }
+      go : (b : Bool) → fits (wordsOf (t .records)) out ≡ b → _≡_ {A = ℕ} 6 (cond b 0 6) → said .pen ≡ cond b (t .pen) from → exit ≡ cond b (written (wordsOf (t .records)) out) out →
+          DrewNothing t from out said exit
+      go true f n p l = absurd (omega arith)
+      go false f n p l = record { fit = f; pen = p; left = l }
+
+-- the number and the words of an answer tell which it is
+pub same-answer : (a b : Answer) → callNumber a ≡ callNumber b → callWords a ≡ callWords b → a ≡ b
+same-answer (Wrote n) (Wrote k) e w = ap Wrote w
+same-answer (Wrote n) NoRoom e w = absurd (omega arith)
+same-answer NoRoom (Wrote k) e w = absurd (omega arith)
+same-answer NoRoom NoRoom e w = refl

@@ -1,6 +1,6 @@
 -- The hints of a drawing (01, "Stems and masks", "The map").
 use mathlib.Core.Bool.{Bool, true, false, _&&_, not}
-use Prim.Native.Nat.{_+_, _≤_}
+use Prim.Native.Nat.{_+_}
 use lib.Dec.{ltb}
 use lib.ListN.{set, replicate}
 use Rattle.fixed.specs.declared.Fixed.{Fixed}
@@ -16,13 +16,6 @@ use Rattle.build.specs.declared.save.Built.{Built}
 use Rattle.build.specs.Build.{initialOf, builtOf}
 use Rattle.pen.specs.declared.strokes.Point.{Point}
 use Rattle.hints.specs.declared.hints.Hints.{Hints}
-
--- what the hints of every drawing have
-pub record Kept (st : HintState) (h : Hints) : Type 0 where
-  pub stems : h .stems .count ≤ 96
-  pub initial : h .initial .len ≤ 96
-  pub map : h .map .len ≤ 96
-  pub zones : st .«zone_count» ≤ 12
 
 abbrev pub unusedStem : Fixed → Fixed → StemHint
 unusedStem min max = record { «is_used» = false; min = min; max = max; «ds_min» = ZERO; «ds_max» = ZERO }

@@ -1,18 +1,20 @@
 -- A path call on a map and a pen (01, "Path records"): its stroke, which room commits or not.
 use mathlib.Core.Path.{_≡_}
-use mathlib.Core.Bool.{Bool, true, false}
+use mathlib.Core.Bool.{Bool, true, false, cond}
 use mathlib.Core.List.{List}
+use Prim.Native.Nat.{ℕ}
 use lib.IntN.{ℤ}
 use lib.ListN.{length}
 use Rattle.fixed.specs.declared.Fixed.{Fixed}
 use Rattle.hintmap.specs.declared.map.HintMap.{HintMap}
 use Rattle.pen.specs.declared.strokes.Pen.{Pen}
 use Rattle.pen.specs.declared.strokes.Stroke.{Stroke}
-use Rattle.pen.specs.Records.{wordsOf, pickWords, written, fits}
+use Rattle.pen.specs.Records.{wordsOf, written, fits}
 use Rattle.pen.specs.Strokes.{moveOf, lineOf, curveOf, finishOf}
 use Rattle.hints.specs.declared.path.Path.{Path}
 use Rattle.hints.specs.declared.path.Path.the-variants.{Move, Line, Curve, Finish}
 use Rattle.hints.specs.declared.path.Drawn.{Drawn}
+use Rattle.hints.specs.declared.path.Answer.{Answer}
 use Rattle.hints.specs.declared.path.Answer.the-variants.{Wrote, NoRoom}
 use Rattle.hints.specs.Hints.{devicePoint}
 
@@ -30,12 +32,25 @@ strokeBy m s pen (Line p) = lineOf pen p (devicePoint m s p)
 strokeBy m s pen (Curve p q r) = curveOf pen (devicePoint m s p) (devicePoint m s q) (devicePoint m s r)
 strokeBy m s pen Finish = finishOf pen
 
--- with room for a stroke's words the pen is the stroke's, and else it is as it was
-abbrev pub drawnBy : Bool → Pen → Stroke → Drawn
-drawnBy true pen s = record { pen = s .pen; answer = Wrote (length (wordsOf (s .records))) }
-drawnBy false pen s = record { pen = pen; answer = NoRoom }
+-- ---- the answer of a call that writes records
+-- 01's number: 0 is OK, 6 NO_ROOM
+abbrev pub callNumber : Answer → ℕ
+callNumber (Wrote n) = 0
+callNumber NoRoom = 6
 
--- the outcome: the pen and the answer, and what is lent
-pub record Drew (m : HintMap) (s : Fixed) (pen : Pen) (path : Path) (out : List ℤ) (said : Drawn) (left : List ℤ) : Type 0 where
-  pub answer : said ≡ drawnBy (fits (wordsOf (strokeBy m s pen path .records)) out) pen (strokeBy m s pen path)
-  pub memory : left ≡ pickWords (fits (wordsOf (strokeBy m s pen path .records)) out) (written (wordsOf (strokeBy m s pen path .records)) out) out
+-- the words written, 0 if refused
+abbrev pub callWords : Answer → ℕ
+callWords (Wrote n) = n
+callWords NoRoom = 0
+
+-- 01's place
+abbrev pub callPlace : Answer → ℕ
+callPlace a = 0
+
+-- the outcome of a stroke: with room for its words they are written and the pen is the stroke's; else pen and words are as they came
+pub record Drew (t : Stroke) (from : Pen) (out : List ℤ) (said : Drawn) (left : List ℤ) : Type 0 where
+  pub number : callNumber (said .answer) ≡ cond (fits (wordsOf (t .records)) out) 0 6
+  pub words : callWords (said .answer) ≡ cond (fits (wordsOf (t .records)) out) (length (wordsOf (t .records))) 0
+  pub place : callPlace (said .answer) ≡ 0
+  pub pen : said .pen ≡ cond (fits (wordsOf (t .records)) out) (t .pen) from
+  pub memory : left ≡ cond (fits (wordsOf (t .records)) out) (written (wordsOf (t .records)) out) out

@@ -9,8 +9,7 @@ use stems::HintMask;
 use stems::StemHint;
 use zones::HintState;
 ghost use mathlib.Core.Path.{_≡_};
-ghost use Prim.Native.Nat.{_≤_};
-ghost use Rattle.hints.specs.Hints.{Kept, unusedStem, newHints, withStem, withMask, withInitial, countered, readyOf, devicePoint};
+ghost use Rattle.hints.specs.Hints.{unusedStem, newHints, withStem, withMask, withInitial, countered, readyOf, devicePoint};
 
 pub struct Hints {
     pub stems: Stems,
@@ -89,7 +88,6 @@ impl Hints {
 
     // From `build`: the initial map is made first, where it is not valid.
     fn with_initial(self, state: HintState) -> Hints
-        requires { ⌜ Kept state self ⌝ }
         ensures { λ r. ⌜ r ≡ withInitial state self ⌝ }
     {
         let initial = self.initial;
@@ -105,7 +103,6 @@ impl Hints {
 
     // Ports `counter_mask`: a map that is thrown away, for the heights that it saves.
     pub fn counter(self, state: HintState, mask: HintMask) -> Hints
-        requires { ⌜ Kept state self ⌝ }
         ensures { λ r. ⌜ r ≡ countered state mask self ⌝ }
     {
         let based = self.with_initial(state);
@@ -120,7 +117,6 @@ impl Hints {
 
     // From `hint`: the map is built from the present mask, where it is not valid.
     pub fn ready(self, state: HintState) -> Hints
-        requires { ⌜ Kept state self ⌝ }
         ensures { λ r. ⌜ r ≡ readyOf state self ⌝ }
     {
         let map = self.map;
@@ -143,7 +139,6 @@ impl Hints {
 
 // Ports `hint` and `scale`: a character point on the device.
 pub(crate) fn place(map: HintMap, scale: Fixed, at: Point) -> Point
-    requires { ⌜ map .len ≤ 96 ⌝ }
     ensures { λ r. ⌜ r ≡ devicePoint map scale at ⌝ }
 {
     let x = at.x;

@@ -7,7 +7,6 @@ use pen::Point;
 use pen::Stroke;
 use pen::put;
 ghost use mathlib.Core.Path.{_≡_};
-ghost use Prim.Native.Nat.{_≤_};
 ghost use Rattle.hints.specs.Path.{strokeBy, Drew};
 
 // What a call asks of the pen.
@@ -32,7 +31,6 @@ pub struct Drawn {
 
 // The stroke of a call, its points carried by a map.
 fn stroke(map: HintMap, scale: Fixed, pen: Pen, path: Path) -> Stroke
-    requires { ⌜ map .len ≤ 96 ⌝ }
     ensures { λ r. ⌜ r ≡ strokeBy map scale pen path ⌝ }
 {
     match path {
@@ -49,8 +47,7 @@ fn stroke(map: HintMap, scale: Fixed, pen: Pen, path: Path) -> Stroke
 
 // Draws by a map into what is lent: all of the call's records or none.
 pub fn draw(map: HintMap, scale: Fixed, pen: Pen, path: Path, out: &mut [i32]) -> Drawn
-    requires { ⌜ map .len ≤ 96 ⌝ }
-    ensures { λ r. ⌜ Drew map scale pen path (now (out .entry)) r (now (out .exit)) ⌝ }
+    ensures { λ r. ⌜ Drew (strokeBy map scale pen path) pen (now (out .entry)) r (now (out .exit)) ⌝ }
 {
     let stroke = stroke(map, scale, pen, path);
     let next = stroke.pen;

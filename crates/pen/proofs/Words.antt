@@ -1,6 +1,6 @@
 -- Laws of the record words: how many there are, what pushing makes of them, and what is written. Assumes nothing.
 use mathlib.Core.Path.{_≡_, sym, ap, _∙_}
-use mathlib.Core.Bool.{Bool, true, false}
+use mathlib.Core.Bool.{Bool, true, false, cond}
 use mathlib.Core.List.{List, _++_, _∷_, [], append-assoc, append-nil}
 use Prim.Native.Nat.{ℕ, suc, _+_, _-_, _≤_, _<_}
 use native.Mathlib.Numerals.{add-one}
@@ -15,7 +15,7 @@ use Rattle.pen.specs.declared.strokes.Start.the-variants.{At, Absent as 
 use Rattle.pen.specs.declared.strokes.Waiting.{Waiting}
 use Rattle.pen.specs.declared.strokes.Waiting.the-variants.{Line, Absent as NoLine}
 use Rattle.pen.specs.declared.strokes.Pen.{Pen}
-use Rattle.pen.specs.Records.{emitted, pushed, wordsOf, pickWords}
+use Rattle.pen.specs.Records.{emitted, pushed, wordsOf}
 use Rattle.pen.specs.Strokes.{samePoint, pointWords, closeBy, waitingWords, closingWords, flushWords, moveOf, lineOf, curveOf, finishOf}
 
 -- one store more at the start of what was lent
@@ -70,7 +70,7 @@ close-short NoStart w = omega arith
 close-short (At from) NoLine = omega arith
 close-short (At from) (Line at device) = pick (samePoint at from)
   where
-    pick : (b : Bool) → length (pickWords b (pos 4 ∷ []) (pos 2 ∷ pointWords device ++ pos 4 ∷ [])) ≤ 4
+    pick : (b : Bool) → length (cond b (pos 4 ∷ []) (pos 2 ∷ pointWords device ++ pos 4 ∷ [])) ≤ 4
     pick true = omega arith
     pick false = omega arith
 

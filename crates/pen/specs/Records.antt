@@ -1,6 +1,6 @@
 -- The record words of one call (01, "Path records").
 use mathlib.Core.Path.{_≡_}
-use mathlib.Core.Bool.{Bool, true, false}
+use mathlib.Core.Bool.{Bool, true, false, cond}
 use mathlib.Core.List.{List, _++_}
 use Prim.Native.Nat.{_+_, _-_}
 use lib.Dec.{leb}
@@ -27,10 +27,6 @@ pushedPoint r p = pushed (pushed r (p .x .bits)) (p .y .bits)
 abbrev pub wordsOf : Records → List ℤ
 wordsOf r = take (r .count) (r .words)
 
-abbrev pub pickWords : Bool → List ℤ → List ℤ → List ℤ
-pickWords true a b = a
-pickWords false a b = b
-
 -- words at the start of what is lent, whose rest stands
 unfoldable pub written : List ℤ → List ℤ → List ℤ
 written ws out = ws ++ drop (length ws) out
@@ -42,4 +38,4 @@ fits ws out = leb (length ws) (length out)
 -- the words are written if they fit, and else nothing is
 pub record Put (out : List ℤ) (r : Records) (said : Bool) (left : List ℤ) : Type 0 where
   pub answer : said ≡ fits (wordsOf r) out
-  pub memory : left ≡ pickWords (fits (wordsOf r) out) (written (wordsOf r) out) out
+  pub memory : left ≡ cond (fits (wordsOf r) out) (written (wordsOf r) out) out

@@ -1,5 +1,5 @@
 -- The strokes of a pen (01, "Path records"): what each makes of start point and waiting line, and the words that it writes.
-use mathlib.Core.Bool.{Bool, _&&_}
+use mathlib.Core.Bool.{Bool, cond, _&&_}
 use mathlib.Core.List.{List, [], _∷_, _++_}
 use lib.IntN.{ℤ, pos}
 use Rattle.fixed.specs.Fixed.{sameF}
@@ -10,7 +10,7 @@ use Rattle.pen.specs.declared.strokes.Waiting.{Waiting}
 use Rattle.pen.specs.declared.strokes.Waiting.the-variants.{Line, Absent as NoLine}
 use Rattle.pen.specs.declared.strokes.Pen.{Pen}
 use Rattle.pen.specs.declared.strokes.Stroke.{Stroke}
-use Rattle.pen.specs.Records.{emitted, pickWords}
+use Rattle.pen.specs.Records.{emitted}
 
 abbrev pub newPen : Pen
 newPen = record { start = NoStart; waiting = NoLine }
@@ -26,7 +26,7 @@ pointWords p = p .x .bits ∷ p .y .bits ∷ []
 abbrev pub closeBy : Start → Waiting → List ℤ
 closeBy NoStart w = []
 closeBy (At from) NoLine = pos 4 ∷ []
-closeBy (At from) (Line at device) = pickWords (samePoint at from) (pos 4 ∷ []) (pos 2 ∷ pointWords device ++ pos 4 ∷ [])
+closeBy (At from) (Line at device) = cond (samePoint at from) (pos 4 ∷ []) (pos 2 ∷ pointWords device ++ pos 4 ∷ [])
 
 unfoldable pub closingWords : Pen → List ℤ
 closingWords pen = closeBy (pen .start) (pen .waiting)

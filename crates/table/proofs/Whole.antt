@@ -1,6 +1,6 @@
 -- The words of every call, and so those of a run, are whole records, and the count that a result has is theirs. Assumes nothing.
 use mathlib.Core.Path.{_≡_, refl, sym, ap, subst, _∙_}
-use mathlib.Core.Bool.{Bool, true, false}
+use mathlib.Core.Bool.{Bool, true, false, cond}
 use mathlib.Core.List.{List, [], _∷_, _++_, append-assoc}
 use Prim.Native.Nat.{ℕ, suc}
 use native.Mathlib.Omega.{arith}
@@ -14,7 +14,7 @@ use Rattle.pen.specs.declared.strokes.Start.the-variants.{At, Absent as NoStart
 use Rattle.pen.specs.declared.strokes.Waiting.{Waiting}
 use Rattle.pen.specs.declared.strokes.Waiting.the-variants.{Line as Waits, Absent as NoLine}
 use Rattle.pen.specs.declared.strokes.Pen.{Pen}
-use Rattle.pen.specs.Records.{emitted, pickWords, wordsOf}
+use Rattle.pen.specs.Records.{emitted, wordsOf}
 use Rattle.pen.specs.Strokes.{samePoint, pointWords, closeBy, closingWords, waitingWords, flushWords, moveOf, lineOf, curveOf, finishOf}
 use Rattle.pen.proofs.Words.{words-emitted}
 use Rattle.hints.specs.declared.path.Path.{Path}
@@ -67,7 +67,7 @@ close-whole NoStart w = (0, none)
 close-whole (At from) NoLine = single closes
 close-whole (At from) (Waits at device) = go (samePoint at from)
   where
-    go : (b : Bool) → Some (pickWords b (pos 4 ∷ []) (pos 2 ∷ pointWords device ++ pos 4 ∷ []))
+    go : (b : Bool) → Some (cond b (pos 4 ∷ []) (pos 2 ∷ pointWords device ++ pos 4 ∷ []))
     go true = single closes
     go false = both (single (line (device .x .bits) (device .y .bits))) (single closes)
 

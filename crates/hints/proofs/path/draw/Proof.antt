@@ -1,7 +1,6 @@
 -- `draw` meets its contract, by that of `put`. Assumes nothing.
 use mathlib.Core.Bool.{true, false}
 use borrow.Author.Needs.{needs}
-use Rattle.hints.proofs.Steps.{path-short}
 use Rattle.hints.proofs.Outcome.{put-drew}
 use Rattle.hints.proofs.path.draw.Statement.{statement}
 use Rattle.hints.proofs.path.draw.Tie as tie
@@ -10,10 +9,7 @@ stroke-requires : tie.Need-stroke-requires
 stroke-requires c κs = search needs
 
 put-requires : tie.Need-put-requires
-put-requires c κs =
-    let s = c .before .before .before in
-    let a = s .before .args in
-    rw (s .stroke .ensures) (path-short (a .map) (a .scale) (a .pen) (a .path))
+put-requires c κs = search needs
 
 same-length : tie.Need-same-length
 same-length c = search needs
@@ -21,7 +17,9 @@ same-length c = search needs
 returns : tie.Need-returns
 returns c =
     let r = c .before .before in
-    put-drew _ _ _ _ true (r .before .before .before .before .stroke .ensures) (rw (c .if1 .taken) at (r .put .ensures))
+    let k = r .before .before .before .before in
+    let a = k .before .args in
+    put-drew (a .map) (a .scale) (a .pen) (a .path) true (k .stroke .ensures) (rw (c .if1 .taken) at (r .put .ensures))
 
 same-length-2 : tie.Need-same-length-2
 same-length-2 c = search needs
@@ -29,7 +27,9 @@ same-length-2 c = search needs
 returns-2 : tie.Need-returns-2
 returns-2 c =
     let r = c .before .before in
-    put-drew _ _ _ _ false (r .before .before .before .before .stroke .ensures) (rw (c .if1 .left) at (r .put .ensures))
+    let k = r .before .before .before .before in
+    let a = k .before .args in
+    put-drew (a .map) (a .scale) (a .pen) (a .path) false (k .stroke .ensures) (rw (c .if1 .left) at (r .put .ensures))
 
 pub draw-spec : {M : Type 1} → statement M
 draw-spec =

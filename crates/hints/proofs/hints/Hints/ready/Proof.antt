@@ -1,7 +1,6 @@
--- `Hints::ready` meets its contract, by its test and calls; no step leaves the room. Assumes nothing.
+-- `Hints::ready` meets its contract, by its test and calls. Assumes nothing.
 use borrow.Author.Needs.{needs}
-use Rattle.hints.specs.Hints.{Kept, readyOf}
-use Rattle.hints.proofs.Kept.{kept-initial}
+use Rattle.hints.specs.Hints.{readyOf}
 use Rattle.hints.proofs.hints.Hints.ready.Statement.{statement}
 use Rattle.hints.proofs.hints.Hints.ready.Tie as tie
 
@@ -12,14 +11,8 @@ returns c = rw (c .if1 .taken)
 with-initial-requires : tie.Need-with-initial-requires
 with-initial-requires c κs = search needs
 
--- the hints with an initial map have what every drawing's have
-kept : (c : tie.After-with-initial) → Kept (c .before .before .before .args .state) (c .with-initial .result)
-kept c = rw (c .with-initial .ensures) (kept-initial _ _ (c .before .before .before .pre))
-
 build-map-requires : tie.Need-build-map-requires
-build-map-requires c κs =
-    let k = kept (c .before .before .before) in
-    (k .stems, (k .initial, k .zones))
+build-map-requires c κs = search needs
 
 returns-2 : tie.Need-returns-2
 unfolding readyOf
