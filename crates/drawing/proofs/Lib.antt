@@ -1,4 +1,2 @@
-pub mod Kept
 pub mod Outcome
 pub mod Unique
-pub mod Demand3

@@ -1,6 +1,6 @@
 -- The calls on a drawing (01, "Path records"): a pure step, which room commits or not.
 use mathlib.Core.Path.{_≡_}
-use mathlib.Core.Bool.{Bool, true, false}
+use mathlib.Core.Bool.{Bool, true, false, cond}
 use mathlib.Core.List.{List}
 use lib.IntN.{ℤ}
 use lib.ListN.{length}
@@ -9,13 +9,13 @@ use Rattle.stems.specs.declared.mask.HintMask.{HintMask}
 use Rattle.zones.specs.declared.state.HintState.{HintState}
 use Rattle.pen.specs.declared.strokes.Pen.{Pen}
 use Rattle.pen.specs.declared.strokes.Stroke.{Stroke}
-use Rattle.pen.specs.Records.{noRecords, wordsOf, pickWords, written, fits}
+use Rattle.pen.specs.Records.{noRecords, wordsOf, written, fits}
 use Rattle.hints.specs.declared.hints.Hints.{Hints}
 use Rattle.hints.specs.declared.path.Path.{Path}
 use Rattle.hints.specs.declared.path.Answer.{Answer}
 use Rattle.hints.specs.declared.path.Answer.the-variants.{Wrote, NoRoom}
 use Rattle.hints.specs.Hints.{newHints, withStem, withMask, countered, readyOf}
-use Rattle.hints.specs.Path.{hasPoint, strokeBy}
+use Rattle.hints.specs.Path.{hasPoint, strokeBy, callNumber, callWords, callPlace}
 use Rattle.drawing.specs.declared.calls.Drawing.{Drawing}
 use Rattle.drawing.specs.declared.calls.After.{After}
 
@@ -64,14 +64,17 @@ wordsFor st d c = wordsOf (strokeOf st (d .hints) (d .pen) c .records)
 
 -- ---- room
 -- with room for its words a call is done, and else the drawing is as it was
-abbrev pub afterBy : Bool → HintState → Drawing → Call → After
-afterBy true st d c = record { drawing = nextOf st d c; answer = Wrote (length (wordsFor st d c)) }
-afterBy false st d c = record { drawing = d; answer = NoRoom }
+abbrev pub roomBy : Bool → HintState → Drawing → Call → Drawing
+roomBy true st d c = nextOf st d c
+roomBy false st d c = d
 
--- the outcome of a call: its answer, and what is lent
+-- the outcome of a call: 01's number, the words written and the place; the drawing; and what is lent
 pub record Called (st : HintState) (d : Drawing) (c : Call) (out : List ℤ) (said : After) (left : List ℤ) : Type 0 where
-  pub answer : said ≡ afterBy (fits (wordsFor st d c) out) st d c
-  pub memory : left ≡ pickWords (fits (wordsFor st d c) out) (written (wordsFor st d c) out) out
+  pub number : callNumber (said .answer) ≡ cond (fits (wordsFor st d c) out) 0 6
+  pub words : callWords (said .answer) ≡ cond (fits (wordsFor st d c) out) (length (wordsFor st d c)) 0
+  pub place : callPlace (said .answer) ≡ 0
+  pub drawing : said .drawing ≡ roomBy (fits (wordsFor st d c) out) st d c
+  pub memory : left ≡ cond (fits (wordsFor st d c) out) (written (wordsFor st d c) out) out
 
 -- hints and pen are kept if there was room, and else the drawing is as it came
 abbrev pub settledBy : Answer → Drawing → Hints → Pen → After

@@ -1,5 +1,7 @@
 -- Opening a drawing without a script (01, after its table).
+use mathlib.Core.Path.{_≡_}
 use mathlib.Core.Bool.{Bool, true, false, _&&_}
+use Prim.Native.Nat.{ℕ}
 use lib.Dec.{leb}
 use lib.IntN.{pos}
 use lib.ListN.{replicate}
@@ -50,3 +52,21 @@ openBy false true p s = record { answer = Ok; state = stateOf p s; drawing = new
 
 unfoldable pub openOf : HintParams → Fixed → Opened
 openOf p s = openBy (lessF s (fromBits (pos 1))) (countsFit p) p s
+
+-- ---- the answer
+-- 01's number: 0 is OK, 2 BAD_SCALE, 3 BAD_BLUES
+abbrev pub openNumber : Opening → ℕ
+openNumber Ok = 0
+openNumber BadScale = 2
+openNumber BadBlues = 3
+
+-- 01's place
+abbrev pub openPlace : Opening → ℕ
+openPlace a = 0
+
+-- the outcome of an opening: 01's number and place, the zones, and the drawing beside them
+pub record Opens (o said : Opened) : Type 0 where
+  pub number : openNumber (said .answer) ≡ openNumber (o .answer)
+  pub place : openPlace (said .answer) ≡ 0
+  pub state : said .state ≡ o .state
+  pub drawing : said .drawing ≡ o .drawing

@@ -13,7 +13,6 @@ use zones::HintState;
 ghost use mathlib.Core.Path.{_≡_};
 ghost use mathlib.Core.Bool.{true};
 ghost use Rattle.hints.specs.declared.path.Path.the-variants.{Move, Line, Curve, Finish};
-ghost use Rattle.hints.specs.Hints.{Kept};
 ghost use Rattle.hints.specs.Path.{hasPoint};
 ghost use Rattle.drawing.specs.Calls.{Called, nextOf, settledBy, stem, hintMask, counterMask, clear, close, draw};
 
@@ -53,7 +52,6 @@ pub fn hint_mask(state: HintState, drawing: Drawing, mask: HintMask) -> Drawing
 
 // Ports `counter_mask`.
 pub fn counter_mask(state: HintState, drawing: Drawing, mask: HintMask) -> Drawing
-    requires { ⌜ Kept state (drawing .hints) ⌝ }
     ensures { λ r. ⌜ r ≡ nextOf state drawing (counterMask mask) ⌝ }
 {
     let hints = drawing.hints;
@@ -93,7 +91,6 @@ fn settle(drawing: Drawing, hints: Hints, drawn: Drawn) -> After
 
 // A call with a point has the current map built first. By a valid one it goes without looking at the hints again.
 fn by_path(state: HintState, drawing: Drawing, path: Path, out: &mut [i32]) -> After
-    requires { ⌜ Kept state (drawing .hints) ⌝ }
     requires { ⌜ hasPoint path ≡ true ⌝ }
     ensures { λ r. ⌜ Called state drawing (draw path) (now (out .entry)) r (now (out .exit)) ⌝ }
 {
@@ -116,7 +113,6 @@ fn by_path(state: HintState, drawing: Drawing, path: Path, out: &mut [i32]) -> A
 
 // Ports `move_to`.
 pub fn move_to(state: HintState, drawing: Drawing, at: Point, out: &mut [i32]) -> After
-    requires { ⌜ Kept state (drawing .hints) ⌝ }
     ensures { λ r. ⌜ Called state drawing (draw (Move at)) (now (out .entry)) r (now (out .exit)) ⌝ }
 {
     by_path(state, drawing, Path::Move(at), out)
@@ -124,7 +120,6 @@ pub fn move_to(state: HintState, drawing: Drawing, at: Point, out: &mut [i32]) -
 
 // Ports `line_to`.
 pub fn line_to(state: HintState, drawing: Drawing, at: Point, out: &mut [i32]) -> After
-    requires { ⌜ Kept state (drawing .hints) ⌝ }
     ensures { λ r. ⌜ Called state drawing (draw (Line at)) (now (out .entry)) r (now (out .exit)) ⌝ }
 {
     by_path(state, drawing, Path::Line(at), out)
@@ -139,7 +134,6 @@ pub fn curve_to(
     end: Point,
     out: &mut [i32],
 ) -> After
-    requires { ⌜ Kept state (drawing .hints) ⌝ }
     ensures { λ r. ⌜ Called state drawing (draw (Curve first second end)) (now (out .entry)) r (now (out .exit)) ⌝ }
 {
     by_path(state, drawing, Path::Curve(first, second, end), out)

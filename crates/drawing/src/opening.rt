@@ -7,7 +7,7 @@ use zones::BlueZone;
 use zones::HintParams;
 use zones::HintState;
 ghost use mathlib.Core.Path.{_≡_};
-ghost use Rattle.drawing.specs.Open.{newDrawing, refusedState, refusedBy, countsFit, openOf};
+ghost use Rattle.drawing.specs.Open.{newDrawing, refusedState, refusedBy, countsFit, openOf, Opens};
 
 // How opening ended.
 pub enum Opening {
@@ -88,7 +88,7 @@ fn refused(answer: Opening) -> Opened
 
 // Opens a drawing at a scale, or refuses the scale, then the counts.
 pub fn open(params: HintParams, scale: Fixed) -> Opened
-    ensures { λ r. ⌜ r ≡ openOf params scale ⌝ }
+    ensures { λ r. ⌜ Opens (openOf params scale) r ⌝ }
 {
     if scale.bits < 1 {
         return refused(Opening::BadScale);

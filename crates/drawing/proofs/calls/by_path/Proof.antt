@@ -3,14 +3,13 @@ use mathlib.Core.Path.{ap, _∙_}
 use borrow.Author.Needs.{needs}
 use Rattle.hints.specs.declared.hints.Hints.{Hints}
 use Rattle.hints.specs.Path.{strokeBy}
-use Rattle.hints.proofs.Kept.{kept-ready}
 use Rattle.drawing.specs.Calls.{draw}
 use Rattle.drawing.proofs.Outcome.{drawn-called, point-hints, valid-called}
 use Rattle.drawing.proofs.calls.by_path.Statement.{statement}
 use Rattle.drawing.proofs.calls.by_path.Tie as tie
 
 draw-requires : tie.Need-draw-requires
-draw-requires c κs = c .before .before .before .before .pre .0 .map
+draw-requires c κs = search needs
 
 same-length : tie.Need-same-length
 same-length c = search needs
@@ -26,10 +25,7 @@ ready-requires : tie.Need-ready-requires
 ready-requires c κs = search needs
 
 draw-requires-2 : tie.Need-draw-requires-2
-draw-requires-2 c κs =
-    let r = c .before .before in
-    let s = r .before .before .before .before in
-    rw (r .ready .ensures) (kept-ready _ _ (s .pre .0) .map)
+draw-requires-2 c κs = search needs
 
 settle-requires : tie.Need-settle-requires
 settle-requires c κs = search needs
@@ -43,7 +39,7 @@ returns-2 c =
     let r = w .before .before .before in
     let s = r .before .before .before .before in
     let a = s .args in
-    let h = r .ready .ensures ∙ point-hints (a .state) (a .drawing) (a .path) (s .pre .1) in
+    let h = r .ready .ensures ∙ point-hints (a .state) (a .drawing) (a .path) (s .pre) in
     drawn-called (a .state) (a .drawing) (draw (a .path)) h (ap (λ (k : Hints). strokeBy (k .map) (a .state .scale) (a .drawing .pen) (a .path)) h) (w .draw2 .ensures) (c .settle .ensures)
 
 pub by-path-spec : {M : Type 1} → statement M

@@ -1,6 +1,5 @@
 -- `finish` meets its contract: what `draw` drew is that call, by whatever map. Assumes nothing.
 use mathlib.Core.Path.{refl}
-use native.Mathlib.Omega.{arith}
 use borrow.Author.Needs.{needs}
 use Rattle.hints.specs.declared.path.Path.the-variants.{Finish}
 use Rattle.drawing.specs.Calls.{draw}
@@ -12,7 +11,7 @@ new-requires : tie.Need-new-requires
 new-requires c κs = search needs
 
 draw-requires : tie.Need-draw-requires
-draw-requires c κs = rw (c .before .new .ensures) (omega arith)
+draw-requires c κs = search needs
 
 settle-requires : tie.Need-settle-requires
 settle-requires c κs = search needs

@@ -1,6 +1,5 @@
 -- Demand 3, as a reader has it: the drawings that there can be, and what each of their maps satisfies. Heights are compared as the bits of 16.16 numbers.
 use mathlib.Core.Path.{_≡_}
-use mathlib.Core.Bool.{Bool, true, false}
 use Prim.Native.Nat.{ℕ, _+_, _≤_, _<_}
 use lib.Dec.{leb}
 use lib.ListN.{length, getD}
@@ -15,14 +14,10 @@ use Rattle.zones.specs.declared.state.HintState.{HintState}
 use Rattle.hintmap.specs.declared.map.HintMap.{HintMap}
 use Rattle.hintmap.specs.Map.{view, line, mapOf}
 use Rattle.drawing.specs.declared.calls.Drawing.{Drawing}
-use Rattle.drawing.specs.Calls.{Call, nextOf, wordsFor}
+use Rattle.drawing.specs.Calls.{Call, wordsFor, roomBy}
 use Rattle.drawing.specs.Open.{openOf}
 
 -- ---- the drawings that there can be
-abbrev pub roomBy : Bool → HintState → Drawing → Call → Drawing
-roomBy true st d c = nextOf st d c
-roomBy false st d c = d
-
 -- a drawing after a call with room for so many words, which does it or refuses it
 abbrev pub afterRoom : ℕ → HintState → Drawing → Call → Drawing
 afterRoom room st d c = roomBy (leb (length (wordsFor st d c)) room) st d c
