@@ -4,6 +4,7 @@ use borrow.Fn.Kinds.{endedOf}
 use borrow.Fn.World.{ArgsD, ResD}
 use contract.Lifetimes.{Lfts}
 use denote.Triple.Clauses.{AtExit}
+use Rattle.words.proofs.Answers.{says-is}
 use Rattle.commands.proofs.reading.read_command as read-command
 use Rattle.commands.proofs.reading.read_command.Kinds as read-command-kinds
 use Rattle.commands.proofs.reading.read_command.Reads as read-command-reads
@@ -17,4 +18,4 @@ module _ (κs : Lfts 1) (a : ArgsD read-command.signature κs) (r r′ : ResD re
 
 module _ (κs : Lfts 1) (a : ArgsD check-commands.signature κs) (r r′ : ResD check-commands.signature κs) (x x′ : AtExit (endedOf 1 check-commands-kinds.ps check-commands-kinds.r) κs) where
   pub check-commands-unique : check-commands-reads.Post κs a r x → check-commands-reads.Post κs a r′ x′ → r ≡ r′
-  check-commands-unique p q = p ∙ sym q
+  check-commands-unique p q = says-is p ∙ sym (says-is q)

@@ -7,7 +7,7 @@ ghost use mathlib.Core.Path.{_≡_};
 ghost use Prim.Native.Nat.{_+_, _*_, _≤_};
 ghost use lib.ListN.{length, drop};
 ghost use Rattle.words.specs.Words.{rawAt};
-ghost use Rattle.words.specs.Answers.{firstOf};
+ghost use Rattle.words.specs.Answers.{Says, firstOf};
 ghost use Rattle.commands.specs.Commands.{commandsOf};
 ghost use Rattle.commands.specs.Faults.{maskPast, maskAnswer, faultRows, commandRows};
 
@@ -68,7 +68,7 @@ fn check_part(part: &[u8], first: usize, n: usize, bytes: usize) -> Answer
 // The same over a whole script, whose `n` command words start at word `first`.
 pub fn check_commands(script: &[u8], first: usize, n: usize, bytes: usize) -> Answer
     requires { ⌜ (4 * (first + n) ≤ length (now script)) × ((length (now script) ≤ 65536) × (bytes ≤ 65536)) ⌝ }
-    ensures { λ r. ⌜ r ≡ firstOf (commandRows bytes (commandsOf first (rawAt (drop (4 * first) (now (script .entry)))) n)) ⌝ }
+    ensures { λ r. ⌜ Says (firstOf (commandRows bytes (commandsOf first (rawAt (drop (4 * first) (now (script .entry)))) n))) r ⌝ }
 {
     let at = 4 * first;
     check_part(&script[at..], first, n, bytes)

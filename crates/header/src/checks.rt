@@ -6,7 +6,7 @@ ghost use mathlib.Core.Path.{_≡_};
 ghost use Prim.Native.Nat.{_≤_};
 ghost use lib.ListN.{length, drop};
 ghost use Rattle.words.specs.Words.{rawAt};
-ghost use Rattle.words.specs.Answers.{firstOf};
+ghost use Rattle.words.specs.Answers.{Says, firstOf};
 ghost use Rattle.header.specs.Header.{lengthBad, allZero, headerRows};
 ghost use Rattle.header.specs.Params.{paramRows};
 
@@ -38,7 +38,7 @@ fn all_zero(script: &[u8], at: usize) -> bool
 
 // The header: a word that is negative is, as a natural, past every end.
 pub fn check_header(script: &[u8]) -> Answer
-    ensures { λ r. ⌜ r ≡ firstOf (headerRows (now (script .entry))) ⌝ }
+    ensures { λ r. ⌜ Says (firstOf (headerRows (now (script .entry)))) r ⌝ }
 {
     let bytes = script.len();
     if length_bad(bytes) {
@@ -82,7 +82,7 @@ pub fn check_header(script: &[u8]) -> Answer
 // The scale, the four counts, and the number of parameters against the pairs.
 pub fn check_params(script: &[u8]) -> Answer
     requires { ⌜ 64 ≤ length (now script) ⌝ }
-    ensures { λ r. ⌜ r ≡ firstOf (paramRows (rawAt (now (script .entry)))) ⌝ }
+    ensures { λ r. ⌜ Says (firstOf (paramRows (rawAt (now (script .entry))))) r ⌝ }
 {
     if number(script, 1).bits < 1 {
         return Answer::BadScale;

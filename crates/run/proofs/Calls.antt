@@ -15,9 +15,8 @@ use Rattle.pen.specs.Records.{wordsOf, fits}
 use Rattle.hints.specs.declared.hints.Hints.{Hints}
 use Rattle.hints.specs.declared.path.Path.{Path}
 use Rattle.hints.specs.declared.path.Drawn.{Drawn}
-use Rattle.hints.specs.Hints.{Kept, readyOf}
+use Rattle.hints.specs.Hints.{readyOf}
 use Rattle.hints.specs.Path.{hasPoint, strokeBy}
-use Rattle.hints.proofs.Kept.{kept-ready}
 use Rattle.hints.proofs.Steps.{ready-idle, ready-twice, DrewWords, DrewNothing}
 use Rattle.drawing.specs.declared.calls.Drawing.{Drawing}
 use Rattle.drawing.specs.Calls.{Call, draw, readyFor, hintsOf, still, strokeOf}
@@ -56,7 +55,6 @@ module _ (st : HintState) where
 
 -- how a run stands before some calls, of all whose steps these are
 pub record Standing (st : HintState) (all : List Step) (out₀ : List ℤ) (cs : List Asked) (h : Hints) (pen : Pen) (next : ℕ) (out : List ℤ) : Type 0 where
-  pub kept : Kept st h
   pub along : Along all out₀ (stepsOf st (drawingOf h pen) cs) next out
 
 -- the same of equal calls
@@ -65,13 +63,13 @@ standing e g = rw e at g
 
 module _ {st : HintState} {all : List Step} {out₀ : List ℤ} {place : ℕ} {c : Call} {cs : List Asked} {h : Hints} {pen : Pen} {next : ℕ} {out : List ℤ} (g : Standing st all out₀ (record { place = place; call = c } ∷ cs) h pen next out) where
   -- a call whose words fit
-  pub turned : (t : Stroke) (k : Hints) → strokeOf st h pen c ≡ t → hintsOf st h c ≡ k → Kept st k → fits (wordsOf (t .records)) (drop next out) ≡ true → Standing st all out₀ cs k (t .pen) (next + length (wordsOf (t .records))) (placed next (wordsOf (t .records)) out)
-  turned t k f q l r = record { kept = l; along = wrote (following (steps-first st h pen place c cs t k f q) (g .along)) r }
+  pub turned : (t : Stroke) (k : Hints) → strokeOf st h pen c ≡ t → hintsOf st h c ≡ k → fits (wordsOf (t .records)) (drop next out) ≡ true → Standing st all out₀ cs k (t .pen) (next + length (wordsOf (t .records))) (placed next (wordsOf (t .records)) out)
+  turned t k f q r = record { along = wrote (following (steps-first st h pen place c cs t k f q) (g .along)) r }
 
   -- one that writes nothing
-  pub marked : strokeOf st h pen c ≡ still pen → Kept st (hintsOf st h c) → Standing st all out₀ cs (hintsOf st h c) pen next out
-  marked f l =
-      let r = turned (still pen) (hintsOf st h c) f refl l (le-leb 0 (length (drop next out)) (omega arith)) in
+  pub marked : strokeOf st h pen c ≡ still pen → Standing st all out₀ cs (hintsOf st h c) pen next out
+  marked f =
+      let r = turned (still pen) (hintsOf st h c) f refl (le-leb 0 (length (drop next out)) (omega arith)) in
       rw (add-zero, placed-none) at r
 
 module _ {st : HintState} {all : List Step} {out₀ : List ℤ} {place : ℕ} {path : Path} {cs : List Asked} {h : Hints} {pen : Pen} {next : ℕ} {out : List ℤ} (g : Standing st all out₀ (record { place = place; call = draw path } ∷ cs) h pen next out) where
@@ -83,7 +81,6 @@ module _ {st : HintState} {all : List Step} {out₀ : List ℤ} {place : ℕ} {p
       let t = strokeOf st h pen (draw path) in
       let k = hintsOf st h (draw path) in
       record {
-        kept = kept-ready st h (g .kept);
         along = following (steps-first st h pen place (draw path) cs t k refl refl ∙ sym (steps-first st (readyOf st h) pen place (draw path) cs t k f q)) (g .along);
       }
 
@@ -95,13 +92,13 @@ module _ {st : HintState} {all : List Step} {out₀ : List ℤ} {place : ℕ} {p
     by-map = same-stroke st h pen path idle
 
     -- one that wrote its words
-    pub drew : {said : Drawn} {k : ℕ} {exit : List ℤ} → DrewWords (h .map) (st .scale) pen path (drop next out) said k exit → Standing st all out₀ cs h (said .pen) (next + k) (take next out ++ exit)
+    pub drew : {said : Drawn} {k : ℕ} {exit : List ℤ} → DrewWords (strokeBy (h .map) (st .scale) pen path) (drop next out) said k exit → Standing st all out₀ cs h (said .pen) (next + k) (take next out ++ exit)
     drew d =
-        let r = turned g (strokeBy (h .map) (st .scale) pen path) h by-map idle (g .kept) (d .fit) in
+        let r = turned g (strokeBy (h .map) (st .scale) pen path) h by-map idle (d .fit) in
         rw (d .pen, d .count, d .left) r
 
     -- and one that did not
-    pub denied : {said : Drawn} {exit : List ℤ} → DrewNothing (h .map) (st .scale) pen path (drop next out) said exit → Stopped all out₀ (NoRoom place) next out
+    pub denied : {said : Drawn} {exit : List ℤ} → DrewNothing (strokeBy (h .map) (st .scale) pen path) pen (drop next out) said exit → Stopped all out₀ (NoRoom place) next out
     denied d = refused (following (steps-first st h pen place (draw path) cs (strokeBy (h .map) (st .scale) pen path) h by-map idle) (g .along)) (d .fit)
 
 -- after the last call

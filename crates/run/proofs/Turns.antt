@@ -12,16 +12,16 @@ use Rattle.pen.specs.Strokes.{newPen}
 use Rattle.hints.specs.declared.hints.Hints.{Hints}
 use Rattle.hints.specs.declared.path.Path.{Path}
 use Rattle.hints.specs.declared.path.Drawn.{Drawn}
-use Rattle.hints.specs.Hints.{Kept, newHints, readyOf}
-use Rattle.hints.specs.Path.{hasPoint}
+use Rattle.hints.specs.Hints.{newHints, readyOf}
+use Rattle.hints.specs.Path.{hasPoint, strokeBy}
 use Rattle.drawing.specs.Calls.{hintsOf, still, strokeOf}
 use Rattle.drawing.specs.Open.{newDrawing}
-use Rattle.hints.proofs.Kept.{kept-new, kept-stem, kept-mask, kept-counter}
 use Rattle.hints.proofs.Steps.{DrewWords, DrewNothing}
 use Rattle.words.specs.declared.answer.Answer.{Answer}
 use Rattle.words.specs.declared.answer.Answer.the-variants.{Ok, NoRoom}
 use Rattle.words.specs.Words.{rawAt}
 use Rattle.words.specs.Answers.{firstOf}
+use Rattle.words.proofs.Answers.{says}
 use Rattle.commands.specs.declared.reading.Marking.{Marking}
 use Rattle.commands.specs.declared.reading.Marking.the-variants.{Bad, Stem, Mask, Counter, Clear, Close}
 use Rattle.commands.specs.declared.reading.Command.{Command}
@@ -33,15 +33,6 @@ use Rattle.run.specs.Room.{Step, fitted}
 use Rattle.run.specs.Run.{markCall, callOf, Asked, callsOf, stepsOf, maskEnd, ranOf, Ended, Runnable, wantsMap, isClose}
 use Rattle.run.proofs.Filling.{begun, following, Stopped}
 use Rattle.run.proofs.Calls.{Standing, standing, marked, readied, drew, denied, finished}
-
--- what a command that writes nothing asks leaves the hints as every drawing has them
-pub kept-mark : (st : HintState) (h : Hints) → Kept st h → (s : List ℕ) (from : ℕ) (m : Marking) → Kept st (hintsOf st h (markCall s from m))
-kept-mark st h k s from Bad = k
-kept-mark st h k s from (Stem min max) = kept-stem st h k min max
-kept-mark st h k s from (Mask start len) = kept-mask st h k _
-kept-mark st h k s from (Counter start len) = kept-counter st h k _
-kept-mark st h k s from Clear = kept-new st (st .scale) (k .zones)
-kept-mark st h k s from Close = k
 
 -- a command whose mask is not past the mask bytes names bytes among them
 end-inside : (bytes : ℕ) (m : Marking) → hasBadMask bytes (Mark m) ≡ false → maskEnd m ≤ bytes
@@ -89,14 +80,13 @@ module _ (st : HintState) (s part : List ℕ) (first n from : ℕ) where
     pub fine : firstOf (commandRows bytes (commandsAt at)) ≡ Ok
 
   -- before the first command
-  pub going : Runnable st s part first n from → (out : List ℤ) → Going out (newHints (st .scale)) newPen 0 0 out
+  pub going : Runnable s part first n from → (out : List ℤ) → Going out (newHints (st .scale)) newPen 0 0 out
   unfolding allSteps
   going r out =
       let e = from-start first (rawAt part) n in
       record {
         stands =
             record {
-              kept = kept-new st (st .scale) (r .zones);
               along = following (ap (λ (l : List Placed). stepsOf st (newDrawing (st .scale)) (callsOf s from l)) e) (begun allSteps out);
             };
         bytes = r .bytes;
@@ -124,7 +114,7 @@ module _ (st : HintState) (s part : List ℕ) (first n from : ℕ) where
 
     -- a command that writes nothing
     pub turn-mark : {m : Marking} → readAt (rawAt part) n at .command ≡ Mark m → Going out₀ (hintsOf st h (markCall s from m)) pen next (nextAt (rawAt part) at) out
-    turn-mark {m} e = behind (marked (standing (calls-first i e) (g .stands)) (mark-still st h pen s from m) (kept-mark st h (g .stands .kept) s from m))
+    turn-mark {m} e = behind (marked (standing (calls-first i e) (g .stands)) (mark-still st h pen s from m))
 
     -- a call that wants a map
     pub turn-ready : {path : Path} → readAt (rawAt part) n at .command ≡ Draw path → hasPoint path ≡ true → Going out₀ (readyOf st h) pen next at out
@@ -138,11 +128,11 @@ module _ (st : HintState) (s part : List ℕ) (first n from : ℕ) where
 
     module _ {path : Path} (e : readAt (rawAt part) n at .command ≡ Draw path) (w : wantsMap (h .map .«is_valid») path ≡ false) where
       -- a call that wrote its words
-      pub turn-drew : {said : Drawn} {k : ℕ} {exit : List ℤ} → DrewWords (h .map) (st .scale) pen path (drop next out) said k exit → Going out₀ h (said .pen) (next + k) (nextAt (rawAt part) at) (take next out ++ exit)
+      pub turn-drew : {said : Drawn} {k : ℕ} {exit : List ℤ} → DrewWords (strokeBy (h .map) (st .scale) pen path) (drop next out) said k exit → Going out₀ h (said .pen) (next + k) (nextAt (rawAt part) at) (take next out ++ exit)
       turn-drew d = behind (drew (standing (calls-first i e) (g .stands)) w d)
 
       -- and one that did not
-      pub turn-refused : {said : Drawn} {exit : List ℤ} → DrewNothing (h .map) (st .scale) pen path (drop next out) said exit → Stopped allSteps out₀ (NoRoom (first + at)) next out
+      pub turn-refused : {said : Drawn} {exit : List ℤ} → DrewNothing (strokeBy (h .map) (st .scale) pen path) pen (drop next out) said exit → Stopped allSteps out₀ (NoRoom (first + at)) next out
       turn-refused d = denied (standing (calls-first i e) (g .stands)) w d
 
   -- after the last command
@@ -153,11 +143,7 @@ module _ (st : HintState) (s part : List ℕ) (first n from : ℕ) where
   -- where it ends is what a run gives
   pub ended : {out₀ : List ℤ} {answer : Answer} {next : ℕ} {out : List ℤ} → Stopped allSteps out₀ answer next out → Ended (ranOf st (callsOf s from (commandsOf first (rawAt part) n)) out₀) (record { answer = answer; words = next }) out
   unfolding ranOf allSteps
-  ended {out₀} {answer} {next} p =
-      record {
-        said = ap (λ (a : Answer). record { answer = a; words = next }) (p .said) ∙ ap (λ (k : ℕ). record { answer = fitted (length out₀) allSteps .said; words = k }) (p .count);
-        memory = p .left;
-      }
+  ended p = record { answer = says (p .said); words = p .count; memory = p .left }
 
 -- ---- a map is made at most once for a call
 abbrev pub unready : Bool → ℕ

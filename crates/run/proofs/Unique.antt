@@ -1,11 +1,15 @@
 -- Any two outcomes that meet the contract of a public function are equal, over that contract as the toolchain reads it: the
 -- count, and of `run` the result and every word of the output. Assumes nothing.
-use mathlib.Core.Path.{_≡_, sym, _∙_}
+use mathlib.Core.Path.{_≡_, sym, ap, _∙_}
+use Prim.Native.Nat.{ℕ}
 use borrow.Fn.Kinds.{endedOf}
 use borrow.Fn.World.{ArgsD, ResD}
 use contract.Lifetimes.{Lfts}
 use denote.Triple.Clauses.{AtExit}
 use denote.Ref.{now}
+use Rattle.words.specs.declared.answer.Answer.{Answer}
+use Rattle.words.proofs.Answers.{says-is}
+use Rattle.run.specs.declared.running.Ran.{Ran}
 use Rattle.run.proofs.count.count_records as count-records
 use Rattle.run.proofs.count.count_records.Kinds as count-records-kinds
 use Rattle.run.proofs.count.count_records.Reads as count-records-reads
@@ -17,6 +21,9 @@ module _ (κs : Lfts 1) (a : ArgsD count-records.signature κs) (r r′ : ResD c
   pub count-records-unique : count-records-reads.Post κs a r x → count-records-reads.Post κs a r′ x′ → r ≡ r′
   count-records-unique p q = p ∙ sym q
 
+ran : {a b : Ran} → a .answer ≡ b .answer → a .words ≡ b .words → a ≡ b
+ran {a} {b} e w = ap (λ (x : Answer). record { answer = x; words = a .words }) e ∙ ap (λ (k : ℕ). record { answer = b .answer; words = k }) w
+
 module _ (κs : Lfts 3) (a : ArgsD run.signature κs) (r r′ : ResD run.signature κs) (x x′ : AtExit (endedOf 3 run-kinds.ps run-kinds.r) κs) where
   pub run-unique : run-reads.Post κs a r x → run-reads.Post κs a r′ x′ → (r ≡ r′) × (now (x .1 .1 .1 .1 .1 .1 .0) ≡ now (x′ .1 .1 .1 .1 .1 .1 .0))
-  run-unique p q = (p .said ∙ sym (q .said), p .memory ∙ sym (q .memory))
+  run-unique p q = (ran (says-is (p .answer) ∙ sym (says-is (q .answer))) (p .words ∙ sym (q .words)), p .memory ∙ sym (q .memory))

@@ -16,7 +16,7 @@ use Rattle.drawing.specs.Calls.{Call, stem, hintMask, counterMask, clear, close
 use Rattle.drawing.specs.Open.{newDrawing}
 use Rattle.words.specs.declared.answer.Answer.the-variants.{Ok}
 use Rattle.words.specs.Words.{rawAt}
-use Rattle.words.specs.Answers.{firstOf}
+use Rattle.words.specs.Answers.{Says, firstOf}
 use Rattle.commands.specs.declared.reading.Marking.{Marking}
 use Rattle.commands.specs.declared.reading.Marking.the-variants.{Bad, Stem, Mask, Counter, Clear, Close}
 use Rattle.commands.specs.declared.reading.Command.{Command}
@@ -72,8 +72,10 @@ outcomeOf f out = record { ran = record { answer = f .said; words = length (f .w
 unfoldable pub ranOf : HintState → List Asked → List ℤ → Outcome
 ranOf st cs out = outcomeOf (fitted (length out) (stepsOf st (newDrawing (st .scale)) cs)) out
 
+-- 01's number and place, the record words that were written, and the output
 pub record Ended (o : Outcome) (r : Ran) (left : List ℤ) : Type 0 where
-  pub said : r ≡ o .ran
+  pub answer : Says (o .ran .answer) (r .answer)
+  pub words : r .words ≡ o .ran .words
   pub memory : left ≡ o .left
 
 -- ---- what a run of checked commands has
@@ -86,9 +88,8 @@ maskEnd (Counter start len) = start + len
 maskEnd Clear = 0
 maskEnd Close = 0
 
--- zones that fit, words that are there, and commands without a fault
-pub record Runnable (st : HintState) (s part : List ℕ) (first n from : ℕ) : Type 0 where
-  pub zones : st .«zone_count» ≤ 12
+-- words that are there, and commands without a fault
+pub record Runnable (s part : List ℕ) (first n from : ℕ) : Type 0 where
   pub there : 4 * n ≤ length part
   pub short : n ≤ 16384
   pub start : first ≤ 16384

@@ -1,7 +1,8 @@
 // How many records there are in some words.
+use fixed::least;
 ghost use mathlib.Core.Path.{_≡_};
 ghost use Prim.Native.Nat.{_≤_};
-ghost use lib.ListN.{length, take};
+ghost use lib.ListN.{take};
 ghost use Rattle.run.specs.Count.{sizeOf, recordsIn};
 
 // The words that a record of a kind takes.
@@ -22,12 +23,12 @@ fn size(kind: i32) -> usize
 
 // The records in the first words of an output.
 pub fn count_records(out: &[i32], words: usize) -> usize
-    requires { ⌜ words ≤ length (now out) ⌝ }
     ensures { λ r. ⌜ r ≡ recordsIn (take words (now (out .entry))) ⌝ }
 {
+    let end = least(words, out.len());
     let mut count = 0;
     let mut at = 0;
-    while at < words {
+    while at < end {
         at = at + size(out[at]);
         count = count + 1;
     }

@@ -6,7 +6,6 @@ use zones::HintState;
 ghost use mathlib.Core.Path.{_≡_};
 ghost use Prim.Native.Nat.{_+_, _≤_};
 ghost use lib.ListN.{length, take, drop};
-ghost use Rattle.hints.specs.Hints.{Kept};
 ghost use Rattle.drawing.specs.Calls.{hintsOf};
 ghost use Rattle.run.specs.Run.{maskAt, maskEnd, markCall};
 
@@ -35,7 +34,7 @@ pub(crate) fn marked(
     from: usize,
     marking: Marking,
 ) -> Hints
-    requires { ⌜ Kept state hints × (from + maskEnd marking ≤ length (now script)) ⌝ }
+    requires { ⌜ from + maskEnd marking ≤ length (now script) ⌝ }
     ensures { λ r. ⌜ r ≡ hintsOf state hints (markCall (now (script .entry)) from marking) ⌝ }
 {
     match marking {

@@ -59,7 +59,7 @@ pub fn run(
     state: HintState,
     out: &mut [i32],
 ) -> Ran
-    requires { ⌜ Runnable state (now script) (now part) first n from ⌝ }
+    requires { ⌜ Runnable (now script) (now part) first n from ⌝ }
     ensures { λ r. ⌜ Ended (ranOf state (callsOf (now (script .entry)) from (commandsOf first (rawAt (now (part .entry))) n)) (now (out .entry))) r (now (out .exit)) ⌝ }
 {
     let mut hints = Hints::new(state.scale);

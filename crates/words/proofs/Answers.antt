@@ -2,14 +2,14 @@
 use mathlib.Core.Path.{_≡_, refl, sym, ap, _∙_}
 use mathlib.Core.Bool.{Bool, true, false}
 use mathlib.Core.List.{List, _++_}
-use Prim.Native.Nat.{ℕ, suc, _<_}
+use Prim.Native.Nat.{ℕ, zero, suc, _<_}
 use native.Mathlib.Omega.{arith}
 use lib.Dec.{eqb}
 use borrow.Author.Tests.{eqb-true, eqb-false, not-true, not-false}
 use Rattle.words.specs.declared.answer.Answer.{Answer}
 use Rattle.words.specs.declared.answer.Answer.the-variants.{Ok, BadScript, BadScale, BadBlues, BadCommand, BadMask, NoRoom}
 use Rattle.words.specs.Rows.{Row}
-use Rattle.words.specs.Answers.{numberOf, refuses, firstOf}
+use Rattle.words.specs.Answers.{numberOf, placeOf, Says, refuses, firstOf}
 use Rattle.words.proofs.Rows.{Refusing, found, onward}
 
 -- an answer numbered from 1 is not Ok
@@ -47,3 +47,29 @@ both-ok rs qs h e =
     by : (b : Bool) → refuses (firstOf rs) ≡ b → firstOf rs ≡ Ok
     by true r = sym (found Ok rs qs (refusal (is-refused (firstOf rs) r))) ∙ e
     by false r = not-refused (firstOf rs) r
+
+-- ---- the number and the place of an answer tell which it is
+abbrev answerBy : ℕ → ℕ → Answer
+answerBy zero p = Ok
+answerBy (suc zero) p = BadScript p
+answerBy (suc (suc zero)) p = BadScale
+answerBy (suc (suc (suc zero))) p = BadBlues p
+answerBy (suc (suc (suc (suc zero)))) p = BadCommand p
+answerBy (suc (suc (suc (suc (suc zero))))) p = BadMask p
+answerBy (suc (suc (suc (suc (suc (suc n)))))) p = NoRoom p
+
+told : (a : Answer) → answerBy (numberOf a) (placeOf a) ≡ a
+told Ok = refl
+told (BadScript p) = refl
+told BadScale = refl
+told (BadBlues p) = refl
+told (BadCommand p) = refl
+told (BadMask p) = refl
+told (NoRoom p) = refl
+
+-- two answers that say the same are one
+pub says-is : {a said : Answer} → Says a said → said ≡ a
+says-is {a} {said} h = sym (told said) ∙ ap (λ (n : ℕ). answerBy n (placeOf said)) (h .number) ∙ ap (answerBy (numberOf a)) (h .place) ∙ told a
+
+pub says : {a said : Answer} → said ≡ a → Says a said
+says e = record { number = ap numberOf e; place = ap placeOf e }

@@ -1,4 +1,5 @@
 -- The answers that a script can get (01's table).
+use mathlib.Core.Path.{_≡_}
 use mathlib.Core.Bool.{Bool, not}
 use mathlib.Core.List.{List}
 use Prim.Native.Nat.{ℕ}
@@ -26,6 +27,11 @@ placeOf (BadBlues p) = p
 placeOf (BadCommand p) = p
 placeOf (BadMask p) = p
 placeOf (NoRoom p) = p
+
+-- an answer says what another does: 01's number, and its place
+pub record Says (a said : Answer) : Type 0 where
+  pub number : numberOf said ≡ numberOf a
+  pub place : placeOf said ≡ placeOf a
 
 -- every answer but Ok refuses
 abbrev pub refuses : Answer → Bool

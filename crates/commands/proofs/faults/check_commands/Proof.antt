@@ -1,6 +1,7 @@
 -- `check_commands` lends the part from the first command word on. Assumes nothing.
 use Prim.Native.Nat.{_*_}
 use borrow.Author.Needs.{needs}
+use Rattle.words.proofs.Answers.{says}
 use Rattle.commands.proofs.Laws.{lent}
 use Rattle.commands.proofs.faults.check_commands.Statement.{statement}
 use Rattle.commands.proofs.faults.check_commands.Tie as tie
@@ -23,7 +24,7 @@ check-part-requires c κs = search needs
 returns : tie.Need-returns
 returns c =
     let a = c .before .before .before .args in
-    rw (lent (a .script .now) (4 * a .first)) at (c .check-part .ensures)
+    says (rw (lent (a .script .now) (4 * a .first)) at (c .check-part .ensures))
 
 pub check-commands-spec : {M : Type 1} → statement M
 check-commands-spec =

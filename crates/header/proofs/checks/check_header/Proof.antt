@@ -8,6 +8,7 @@ use lib.ListN.{length, drop}
 use borrow.Author.Needs.{needs}
 use Rattle.words.specs.Words.{rawAt}
 use Rattle.words.specs.Rows.{firstOr}
+use Rattle.words.proofs.Answers.{says}
 use Rattle.header.specs.Header.{padded, allZero, headerRows}
 use Rattle.header.proofs.Tests.{Past, pass, stop, tests, low, high, inside, before-end, at-end, long}
 use Rattle.header.proofs.checks.check_header.Statement.{statement}
@@ -72,32 +73,32 @@ length-bad-requires c κs = search needs
 
 returns : tie.Need-returns
 unfolding headerRows
-returns c = stop 0 (record { rest = refl }) (sym (c .before .length-bad .ensures) ∙ c .if1 .taken)
+returns c = says (stop 0 (record { rest = refl }) (sym (c .before .length-bad .ensures) ∙ c .if1 .taken))
 
 natural-requires : tie.Need-natural-requires
 natural-requires c κs = omega (arith, sized c)
 
 returns-2 : tie.Need-returns-2
 unfolding headerRows
-returns-2 c = stop 1 (at1 (c .before .before)) (omega tests)
+returns-2 c = says (stop 1 (at1 (c .before .before)) (omega tests))
 
 natural-requires-2 : tie.Need-natural-requires-2
 natural-requires-2 c κs = omega (arith, sized (c .before .before))
 
 returns-3 : tie.Need-returns-3
 unfolding headerRows
-returns-3 c = stop 2 (at2 (c .before .before)) (omega tests)
+returns-3 c = says (stop 2 (at2 (c .before .before)) (omega tests))
 
 natural-requires-3 : tie.Need-natural-requires-3
 natural-requires-3 c κs = omega (arith, sized (c .before .before .before .before))
 
 returns-4 : tie.Need-returns-4
 unfolding headerRows
-returns-4 c = stop 3 (at3 (c .before .before)) (omega (arith, low))
+returns-4 c = says (stop 3 (at3 (c .before .before)) (omega (arith, low)))
 
 returns-5 : tie.Need-returns-5
 unfolding headerRows
-returns-5 c = stop 3 (at3 (c .before .before .before)) (omega (arith, high))
+returns-5 c = says (stop 3 (at3 (c .before .before .before)) (omega (arith, high)))
 
 natural-requires-4 : tie.Need-natural-requires-4
 natural-requires-4 c κs = omega (arith, sized5 c)
@@ -107,7 +108,7 @@ add-if6 c = search needs
 
 returns-6 : tie.Need-returns-6
 unfolding headerRows
-returns-6 c = stop 4 (at4 (c .before .before)) (omega tests)
+returns-6 c = says (stop 4 (at4 (c .before .before)) (omega tests))
 
 natural-requires-5 : tie.Need-natural-requires-5
 natural-requires-5 c κs = omega (arith, sized5 (c .before .before))
@@ -117,7 +118,7 @@ add-if7 c = search needs
 
 returns-7 : tie.Need-returns-7
 unfolding headerRows
-returns-7 c = stop 5 (at5 (c .before .before)) (omega tests)
+returns-7 c = says (stop 5 (at5 (c .before .before)) (omega tests))
 
 natural-requires-6 : tie.Need-natural-requires-6
 natural-requires-6 c κs = search needs
@@ -127,7 +128,7 @@ add-if8 c = search needs
 
 returns-8 : tie.Need-returns-8
 unfolding headerRows
-returns-8 c = stop 6 (at6 (c .before .before)) (omega tests)
+returns-8 c = says (stop 6 (at6 (c .before .before)) (omega tests))
 
 natural-requires-7 : tie.Need-natural-requires-7
 natural-requires-7 c κs = search needs
@@ -140,7 +141,7 @@ add-if9-2 c = search needs
 
 returns-9 : tie.Need-returns-9
 unfolding headerRows
-returns-9 c = stop 7 (at7 (c .before .before)) (omega tests)
+returns-9 c = says (stop 7 (at7 (c .before .before)) (omega tests))
 
 mul-all-zero : tie.Need-mul-all-zero
 mul-all-zero c = search needs
@@ -153,11 +154,11 @@ all-zero-requires c κs = search needs
 
 returns-10 : tie.Need-returns-10
 unfolding headerRows
-returns-10 c = stop 8 (at8 (c .before .before)) (ap not (zeros (c .before)) ∙ c .if10 .taken)
+returns-10 c = says (stop 8 (at8 (c .before .before)) (ap not (zeros (c .before)) ∙ c .if10 .taken))
 
 returns-11 : tie.Need-returns-11
 unfolding headerRows firstOr
-returns-11 c = sym (pass 8 (at8 (c .before .before)) (ap not (zeros (c .before)) ∙ c .if10 .left) .rest)
+returns-11 c = says (sym (pass 8 (at8 (c .before .before)) (ap not (zeros (c .before)) ∙ c .if10 .left) .rest))
 
 pub check-header-spec : {M : Type 1} → statement M
 check-header-spec =

@@ -8,6 +8,7 @@ use mir.Facts.{toZ-ofZ}
 use borrow.Author.Needs.{needs}
 use Rattle.words.specs.Words.{rawAt}
 use Rattle.words.specs.Rows.{firstOr}
+use Rattle.words.proofs.Answers.{says}
 use Rattle.header.specs.Params.{paramRows}
 use Rattle.header.proofs.Tests.{Past, pass, stop, tests}
 use Rattle.header.proofs.checks.check_params.Statement.{statement}
@@ -45,35 +46,35 @@ number-requires c κs = search needs
 
 returns : tie.Need-returns
 unfolding paramRows
-returns c = stop 0 (record { rest = refl }) (rw (toZ-ofZ (fits (c .before)), c .before .before .before .number .ensures) at (c .if1 .taken))
+returns c = says (stop 0 (record { rest = refl }) (rw (toZ-ofZ (fits (c .before)), c .before .before .before .number .ensures) at (c .if1 .taken)))
 
 natural-requires : tie.Need-natural-requires
 natural-requires c κs = search needs
 
 returns-2 : tie.Need-returns-2
 unfolding paramRows
-returns-2 c = stop 1 (at1 (c .before .before)) (omega tests)
+returns-2 c = says (stop 1 (at1 (c .before .before)) (omega tests))
 
 natural-requires-2 : tie.Need-natural-requires-2
 natural-requires-2 c κs = search needs
 
 returns-3 : tie.Need-returns-3
 unfolding paramRows
-returns-3 c = stop 2 (at2 (c .before .before)) (omega tests)
+returns-3 c = says (stop 2 (at2 (c .before .before)) (omega tests))
 
 natural-requires-3 : tie.Need-natural-requires-3
 natural-requires-3 c κs = search needs
 
 returns-4 : tie.Need-returns-4
 unfolding paramRows
-returns-4 c = stop 3 (at3 (c .before .before)) (omega tests)
+returns-4 c = says (stop 3 (at3 (c .before .before)) (omega tests))
 
 natural-requires-4 : tie.Need-natural-requires-4
 natural-requires-4 c κs = search needs
 
 returns-5 : tie.Need-returns-5
 unfolding paramRows
-returns-5 c = stop 4 (at4 (c .before .before)) (omega tests)
+returns-5 c = says (stop 4 (at4 (c .before .before)) (omega tests))
 
 natural-requires-5 : tie.Need-natural-requires-5
 natural-requires-5 c κs = search needs
@@ -95,11 +96,11 @@ add-if6-4 c = search needs
 
 returns-6 : tie.Need-returns-6
 unfolding paramRows
-returns-6 c = stop 5 (at5 (c .before .before)) (omega tests)
+returns-6 c = says (stop 5 (at5 (c .before .before)) (omega tests))
 
 returns-7 : tie.Need-returns-7
 unfolding paramRows firstOr
-returns-7 c = sym (pass 5 (at5 (c .before .before)) (omega tests) .rest)
+returns-7 c = says (sym (pass 5 (at5 (c .before .before)) (omega tests) .rest))
 
 pub check-params-spec : {M : Type 1} → statement M
 check-params-spec =

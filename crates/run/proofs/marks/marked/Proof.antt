@@ -29,7 +29,7 @@ enum-known-marking-2 c = search needs
 mask-at-requires : tie.Need-mask-at-requires
 mask-at-requires c κs =
     let e = ap maskEnd (c .before .marking2 .given .1) in
-    omega (arith, e, c .before .before .before .before .pre .1)
+    omega (arith, e, c .before .before .before .before .pre)
 
 with-mask-requires : tie.Need-with-mask-requires
 with-mask-requires c κs = search needs
@@ -40,7 +40,7 @@ enum-known-marking-3 c = search needs
 mask-at-requires-2 : tie.Need-mask-at-requires-2
 mask-at-requires-2 c κs =
     let e = ap maskEnd (c .before .marking3 .given .1) in
-    omega (arith, e, c .before .before .before .before .pre .1)
+    omega (arith, e, c .before .before .before .before .pre)
 
 counter-requires : tie.Need-counter-requires
 counter-requires c κs = search needs

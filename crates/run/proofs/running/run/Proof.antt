@@ -76,7 +76,7 @@ module _ (c : tie.After-draw Inv-loop μ-loop) where
   abbrev call-turn : tie.At-loop Inv-loop μ-loop
   call-turn = draw-turn (c .before .before .before)
 
-  drew : Drew (call-turn .loop .hints .map) (begin call-turn .args .state .scale) (call-turn .loop .pen) (path (c .before .before .before)) (drop (call-turn .loop .next) (call-turn .loop .out)) (c .draw .result) (c .draw .last .1 .1 .1 .1 .0)
+  drew : Drew (strokeBy (call-turn .loop .hints .map) (begin call-turn .args .state .scale) (call-turn .loop .pen) (path (c .before .before .before))) (call-turn .loop .pen) (drop (call-turn .loop .next) (call-turn .loop .out)) (c .draw .result) (c .draw .last .1 .1 .1 .1 .0)
   drew = rw (lent (call-turn .loop .out) (call-turn .loop .next)) at (c .draw .ensures)
 
   no-map : wantsMap (call-turn .loop .hints .map .«is_valid») (path (c .before .before .before)) ≡ false
@@ -128,7 +128,7 @@ marked-requires c κs =
     let m = c .before .before .before in
     let l = mark-turn m in
     let a = begin l .args in
-    (l .loop .inv .stands .kept, mask-there (a .state) (a .script .now) (a .part .now) (a .first) (a .n) (a .from) (l .loop .inv) (m .before .before .before .loop-test .taken) (mark-is m))
+    mask-there (a .state) (a .script .now) (a .part .now) (a .first) (a .n) (a .from) (l .loop .inv) (m .before .before .before .loop-test .taken) (mark-is m)
 
 loop-less-2 : tie.Need-loop-less-2 Inv-loop μ-loop
 loop-less-2 c =
@@ -151,7 +151,7 @@ wants-map-requires : tie.Need-wants-map-requires Inv-loop μ-loop
 wants-map-requires c κs = search needs
 
 ready-requires : tie.Need-ready-requires Inv-loop μ-loop
-ready-requires c κs = draw-turn (c .before) .loop .inv .stands .kept
+ready-requires c κs = search needs
 
 loop-less-3 : tie.Need-loop-less-3 Inv-loop μ-loop
 loop-less-3 c =
@@ -184,7 +184,7 @@ part-draw-end : tie.Need-part-draw-end Inv-loop μ-loop
 part-draw-end c = search needs
 
 draw-requires : tie.Need-draw-requires Inv-loop μ-loop
-draw-requires c κs = draw-turn (c .before .before) .loop .inv .stands .kept .map
+draw-requires c κs = search needs
 
 enum-known-answer : tie.Need-enum-known-answer Inv-loop μ-loop
 enum-known-answer c = search needs
