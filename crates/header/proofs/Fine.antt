@@ -13,7 +13,6 @@ use Rattle.fixed.specs.Whole.{signed}
 use Rattle.fixed.specs.Fixed.{fromBits, lessF}
 use Rattle.fixed.proofs.Ints.{ints}
 use Rattle.fixed.proofs.Order.{heights}
-use Rattle.zones.specs.State.{Counted}
 use Rattle.words.specs.declared.answer.Answer.the-variants.{Ok}
 use Rattle.words.specs.Words.{rawAt, negative, numberAt}
 use Rattle.words.specs.Answers.{firstOf}
@@ -71,10 +70,6 @@ module _ (s : List ℕ) where
         familyOthers = ltb-false 7 (rawAt s 15) (f 4);
         there = omega arith;
       }
-
-  pub counted : Whole s → Counted (paramsOf (rawAt s))
-  unfolding paramsOf bluesAt
-  counted w = record { blues = w .blues; others = w .others; family = w .family; familyOthers = w .familyOthers }
 
   pub scaled : firstOf (paramRows (rawAt s)) ≡ Ok → pos 0 <ℤ numberAt (rawAt s) 1 .bits
   unfolding paramRows

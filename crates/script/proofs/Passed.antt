@@ -8,7 +8,6 @@ use lib.IntN.{ℤ}
 use lib.ListN.{length, drop, length-drop}
 use Rattle.fixed.specs.declared.Fixed.{Fixed}
 use Rattle.zones.specs.State.{emBox, stateBy, stateOf}
-use Rattle.zones.proofs.Keep.{state-count}
 use Rattle.drawing.specs.Open.{newDrawing}
 use Rattle.words.specs.declared.answer.Answer.the-variants.{Ok}
 use Rattle.words.specs.Words.{rawAt, numberAt}
@@ -16,7 +15,7 @@ use Rattle.words.specs.Answers.{firstOf}
 use Rattle.words.proofs.Answers.{both-ok}
 use Rattle.header.specs.Header.{headerRows}
 use Rattle.header.specs.Params.{paramRows, paramsOf, Whole}
-use Rattle.header.proofs.Fine.{Fine, fine, whole, counted, header-refusing, params-refusing}
+use Rattle.header.proofs.Fine.{Fine, fine, whole, header-refusing, params-refusing}
 use Rattle.commands.specs.Faults.{commandRows}
 use Rattle.run.specs.Room.{fitted}
 use Rattle.run.specs.Run.{stepsOf, outcomeOf, ranOf, Runnable}
@@ -47,12 +46,10 @@ zones-scale s = go (emBox (paramsOf (rawAt s)))
     go false = refl
 
 -- the commands of such a script can be run
-pub runnable : (s : List ℕ) → Passed s → Runnable (zonesOf s) s (drop (4 * rawAt s 4) s) (rawAt s 4) (rawAt s 5) (4 * rawAt s 6)
-unfolding zonesOf
+pub runnable : (s : List ℕ) → Passed s → Runnable s (drop (4 * rawAt s 4) s) (rawAt s 4) (rawAt s 5) (4 * rawAt s 6)
 runnable s p =
     let f = p .fine in
     record {
-      zones = state-count (paramsOf (rawAt s)) (numberAt (rawAt s) 1) (counted s (p .whole) .blues);
       there = omega (arith, length-drop (4 * rawAt s 4) s, f .ends);
       short = omega (arith, f .ends, f .short);
       start = omega (arith, f .ends, f .short);

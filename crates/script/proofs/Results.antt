@@ -15,6 +15,7 @@ use Rattle.words.specs.declared.answer.Answer.the-variants.{NoRoom}
 use Rattle.drawing.specs.Open.{newDrawing}
 use Rattle.words.specs.Words.{rawAt, numberAt}
 use Rattle.words.specs.Answers.{firstOf, numberOf, refuses}
+use Rattle.words.proofs.Answers.{says}
 use Rattle.commands.proofs.Laws.{at-most}
 use Rattle.run.specs.Room.{Fitted, fitted}
 use Rattle.run.proofs.Bounds.{ten-each, calls-many}
@@ -30,7 +31,7 @@ taken a h = rw (eq-eqb (numberOf a) 0 h)
 
 -- what a whole result says of an answer and an output
 scripted : {o : Result} {a : Answer} {left : List ℤ} → o ≡ record { answer = a; left = left } → Scripted o a left
-scripted e = record { answer = sym (ap (λ (x : Result). x .answer) e); memory = sym (ap (λ (x : Result). x .left) e) }
+scripted e = record { answer = says (sym (ap (λ (x : Result). x .answer) e)); memory = sym (ap (λ (x : Result). x .left) e) }
 
 module _ (s : List ℕ) (out : List ℤ) where
   -- a fault

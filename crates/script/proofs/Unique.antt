@@ -6,10 +6,11 @@ use borrow.Fn.World.{ArgsD, ResD}
 use contract.Lifetimes.{Lfts}
 use denote.Triple.Clauses.{AtExit}
 use denote.Ref.{now}
+use Rattle.words.proofs.Answers.{says-is}
 use Rattle.script.proofs.whole.run_script as run-script
 use Rattle.script.proofs.whole.run_script.Kinds as run-script-kinds
 use Rattle.script.proofs.whole.run_script.Reads as run-script-reads
 
 module _ (κs : Lfts 2) (a : ArgsD run-script.signature κs) (r r′ : ResD run-script.signature κs) (x x′ : AtExit (endedOf 2 run-script-kinds.ps run-script-kinds.r) κs) where
   pub run-script-unique : run-script-reads.Post κs a r x → run-script-reads.Post κs a r′ x′ → (r ≡ r′) × (now (x .1 .0) ≡ now (x′ .1 .0))
-  run-script-unique p q = (p .answer ∙ sym (q .answer), p .memory ∙ sym (q .memory))
+  run-script-unique p q = (says-is (p .answer) ∙ sym (says-is (q .answer)), p .memory ∙ sym (q .memory))

@@ -14,7 +14,7 @@ use Rattle.words.specs.declared.answer.Answer.{Answer}
 use Rattle.words.specs.declared.answer.Answer.the-variants.{NoRoom}
 use Rattle.words.specs.Words.{rawAt, numberAt}
 use Rattle.words.specs.Rows.{Row}
-use Rattle.words.specs.Answers.{firstOf, refuses}
+use Rattle.words.specs.Answers.{Says, firstOf, refuses}
 use Rattle.header.specs.Header.{headerRows}
 use Rattle.header.specs.Params.{paramRows, paramsOf}
 use Rattle.commands.specs.Commands.{Placed, commandsOf}
@@ -72,6 +72,7 @@ resultBy false false s out = endedBy (fitted (length out - 4) (stepsIn s)) out
 unfoldable pub scriptOf : List ℕ → List ℤ → Result
 scriptOf s out = resultBy (refuses (firstOf (checkRows s))) (ltb (length out) 4) s out
 
+-- 01's number and place, and every word of the output
 pub record Scripted (o : Result) (said : Answer) (left : List ℤ) : Type 0 where
-  pub answer : said ≡ o .answer
+  pub answer : Says (o .answer) said
   pub memory : left ≡ o .left

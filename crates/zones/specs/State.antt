@@ -1,7 +1,6 @@
 -- The state that parameters and a scale make (01, "Zones").
 use mathlib.Core.Bool.{Bool, true, false, cond, _&&_, _||_}
 use mathlib.Core.List.{List, [], map}
-use Prim.Native.Nat.{_≤_}
 use lib.Dec.{eqb}
 use lib.IntN.{ℤ, pos, negsuc, negℤ}
 use lib.ListN.{length, getD}
@@ -11,13 +10,6 @@ use Rattle.zones.specs.declared.blues.BlueZone.{BlueZone}
 use Rattle.zones.specs.declared.state.HintParams.{HintParams}
 use Rattle.zones.specs.declared.state.HintState.{HintState}
 use Rattle.zones.specs.Zones.{noBlue, whollyBelow, whollyAbove, kept, greatestFrom, movedFlat, deviceFlat, filled}
-
--- what opening ensures of every list
-pub record Counted (p : HintParams) : Type 0 where
-  pub blues : p .blues .count ≤ 7
-  pub others : p .«other_blues» .count ≤ 7
-  pub family : p .«family_blues» .count ≤ 7
-  pub familyOthers : p .«family_other_blues» .count ≤ 7
 
 -- ---- em-box hints
 abbrev pub isOne : ℤ → Bool

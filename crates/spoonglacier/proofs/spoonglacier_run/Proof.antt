@@ -1,7 +1,6 @@
 -- `spoonglacier_run` hands on what `run_script` gives. Assumes nothing.
-use mathlib.Core.Path.{ap, _∙_}
+use mathlib.Core.Path.{_∙_}
 use borrow.Author.Needs.{needs}
-use Rattle.words.specs.Answers.{numberOf, placeOf}
 use Rattle.spoonglacier.proofs.spoonglacier_run.Statement.{statement}
 use Rattle.spoonglacier.proofs.spoonglacier_run.Tie as tie
 
@@ -21,7 +20,7 @@ returns : tie.Need-returns
 returns c =
     let p = c .before in
     let r = p .before .before .run-script .ensures in
-    record { number = c .code .ensures ∙ ap numberOf (r .answer); memory = r .memory; place = p .place .ensures ∙ ap placeOf (r .answer) }
+    record { number = c .code .ensures ∙ r .answer .number; memory = r .memory; place = p .place .ensures ∙ r .answer .place }
 
 pub spoonglacier-run-spec : {M : Type 1} → statement M
 spoonglacier-run-spec =

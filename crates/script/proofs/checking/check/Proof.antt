@@ -7,7 +7,7 @@ use Rattle.words.specs.declared.answer.Answer.the-variants.{Ok}
 use Rattle.words.specs.Words.{rawAt}
 use Rattle.words.specs.Answers.{firstOf, numberOf}
 use Rattle.words.proofs.Rows.{found, onward}
-use Rattle.words.proofs.Answers.{refusal, is-ok}
+use Rattle.words.proofs.Answers.{refusal, is-ok, says-is}
 use Rattle.header.specs.Header.{headerRows}
 use Rattle.header.specs.Params.{paramRows}
 use Rattle.header.proofs.Fine.{Fine, fine, header-refusing, params-refusing}
@@ -17,13 +17,13 @@ use Rattle.script.proofs.checking.check.Statement.{statement}
 use Rattle.script.proofs.checking.check.Tie as tie
 
 header-ok : (c : tie.Else1) → firstOf (headerRows (c .before .before .before .before .args .script .now)) ≡ Ok
-header-ok c = is-ok _ (omega (arith, ap numberOf (c .before .before .check-header .ensures), c .before .code .ensures, c .if1 .left))
+header-ok c = is-ok _ (omega (arith, c .before .before .check-header .ensures .number, c .before .code .ensures, c .if1 .left))
 
 header-fine : (c : tie.Else1) → Fine (c .before .before .before .before .args .script .now)
 header-fine c = fine _ (header-ok c)
 
 params-ok : (c : tie.Else2) → firstOf (paramRows (rawAt (c .before .before .before .before .before .before .before .args .script .now))) ≡ Ok
-params-ok c = is-ok _ (omega (arith, ap numberOf (c .before .before .check-params .ensures), c .before .code2 .ensures, c .if2 .left))
+params-ok c = is-ok _ (omega (arith, c .before .before .check-params .ensures .number, c .before .code2 .ensures, c .if2 .left))
 
 check-header-requires : tie.Need-check-header-requires
 check-header-requires c κs = search needs
@@ -34,7 +34,7 @@ code-requires c κs = search needs
 returns : tie.Need-returns
 unfolding checkRows
 returns c =
-    let h = c .before .before .check-header .ensures in
+    let h = says-is (c .before .before .check-header .ensures) in
     let s = c .before .before .before .before .args .script .now in
     h ∙ sym (found Ok (headerRows s) (paramRows (rawAt s) ++ commandRows (rawAt s 7) (commandsIn s)) (refusal (omega (arith, ap numberOf h, c .before .code .ensures, c .if1 .taken))))
 
@@ -47,7 +47,7 @@ code-requires-2 c κs = search needs
 returns-2 : tie.Need-returns-2
 unfolding checkRows
 returns-2 c =
-    let q = c .before .before .check-params .ensures in
+    let q = says-is (c .before .before .check-params .ensures) in
     let e = c .before .before .before in
     let s = e .before .before .before .before .args .script .now in
     q ∙ sym (onward Ok (headerRows s) (paramRows (rawAt s) ++ commandRows (rawAt s 7) (commandsIn s)) (header-refusing s) (header-ok e) ∙ found Ok (paramRows (rawAt s)) (commandRows (rawAt s 7) (commandsIn s)) (refusal (omega (arith, ap numberOf q, c .before .code2 .ensures, c .if2 .taken))))
@@ -72,7 +72,7 @@ returns-3 c =
     let e = c .before .before .before .before in
     let h = e .before .before .before in
     let s = h .before .before .before .before .args .script .now in
-    rw (c .before .before .before .natural .ensures .0, c .before .before .natural2 .ensures .0, c .before .natural3 .ensures .0) at (c .check-commands .ensures) ∙
+    rw (c .before .before .before .natural .ensures .0, c .before .before .natural2 .ensures .0, c .before .natural3 .ensures .0) at (says-is (c .check-commands .ensures)) ∙
     sym (onward Ok (headerRows s) (paramRows (rawAt s) ++ commandRows (rawAt s 7) (commandsIn s)) (header-refusing s) (header-ok h) ∙ onward Ok (paramRows (rawAt s)) (commandRows (rawAt s 7) (commandsIn s)) (params-refusing s) (params-ok e))
 
 pub check-spec : {M : Type 1} → statement M

@@ -45,7 +45,7 @@ run-requires : tie.Need-run-requires
 run-requires c κs =
     let n = c .before .before .before in
     let s = n .before .before .before .before in
-    rw (c .before .zones-of .ensures, n .before .before .natural .ensures .0, n .before .natural2 .ensures .0, n .natural3 .ensures .0, lent (s .args .script .now) (4 * rawAt (s .args .script .now) 4)) (runnable _ (passed _ (s .pre)))
+    rw (n .before .before .natural .ensures .0, n .before .natural2 .ensures .0, n .natural3 .ensures .0, lent (s .args .script .now) (4 * rawAt (s .args .script .now) 4)) (runnable _ (passed _ (s .pre)))
 
 same-length : tie.Need-same-length
 same-length c = search needs

@@ -11,12 +11,10 @@ use Rattle.pen.specs.Records.{written}
 use Rattle.run.specs.Count.{recordsIn}
 use Rattle.run.specs.Room.{Fitted}
 use Rattle.run.specs.Run.{outcomeOf, Ended}
-use Rattle.run.proofs.Bounds.{within-room}
 use Rattle.run.proofs.Counting.{few-records}
 use Rattle.words.specs.declared.answer.Answer.the-variants.{Ok}
 use Rattle.words.specs.Answers.{firstOf, numberOf, refuses}
-use Rattle.words.proofs.Answers.{not-refused}
-use Rattle.run.specs.declared.running.Ran.{Ran}
+use Rattle.words.proofs.Answers.{not-refused, says, says-is}
 use Rattle.run.proofs.Filling.{back}
 use Rattle.commands.proofs.Laws.{lent}
 use Rattle.script.specs.Script.{checkRows, stepsIn}
@@ -54,10 +52,10 @@ module _ (c : tie.After-run-commands) where
   ended = rw lent at (c .run-commands .ensures)
 
   answer-is : c .run-commands .result .answer ≡ fit .said
-  answer-is = ap (λ (r : Ran). r .answer) (ended .said)
+  answer-is = says-is (ended .answer)
 
   words-are : c .run-commands .result .words ≡ length (fit .words)
-  words-are = ap (λ (r : Ran). r .words) (ended .said)
+  words-are = ended .words
 
   abbrev mid : List ℤ
   mid = putMid 4 (length out - 4) out (c .run-commands .last .1 .0)
@@ -134,10 +132,7 @@ part-count-records-end : tie.Need-part-count-records-end
 part-count-records-end c = search needs
 
 count-records-requires : tie.Need-count-records-requires
-count-records-requires c κs =
-    let r = c .before .before .before .before .before in
-    let e = ap length (lent (mid r) 4) ∙ length-drop 4 (mid r) in
-    omega (arith, words-are r, e, mid-length r, length-drop 4 (out r), within-room (length (drop 4 (out r))) (stepsIn (script r)))
+count-records-requires c κs = search needs
 
 cast-seal : tie.Need-cast-seal
 cast-seal c = record { fits = omega (arith, counted (c .before), few-records (fit (c .before .before .before .before .before .before .before) .words), few (c .before .before .before .before .before .before .before)) }
@@ -163,7 +158,7 @@ returns-4 c =
     let ws = fit r .words in
     let b = by-run (script r) (out r) (no-fault (begun r)) (enough r) ok in
     record {
-      answer = sym (not-refused (fit r .said) ok) ∙ b .answer;
+      answer = says (sym (not-refused (fit r .said) ok) ∙ says-is (b .answer));
       memory =
           c .before .seal .ensures ∙ ap (λ (n : ℕ). written (pos 1 ∷ pos n ∷ pos 4 ∷ pos (r .run-commands .result .words) ∷ []) (mid r)) (counted k) ∙
           ap (λ (n : ℕ). written (pos 1 ∷ pos (recordsIn ws) ∷ pos 4 ∷ pos n ∷ []) (mid r)) (words-are r) ∙

@@ -4,7 +4,7 @@ use native.Mathlib.Omega.{arith}
 use Rattle.zones.specs.declared.state.HintParams.{HintParams}
 use Rattle.zones.specs.State.{stateOf}
 use Rattle.header.specs.Params.{paramsOf}
-use Rattle.header.proofs.Fine.{counted, scaled}
+use Rattle.header.proofs.Fine.{scaled}
 use Rattle.words.specs.Words.{rawAt}
 use Rattle.script.specs.Script.{zonesOf}
 use Rattle.script.proofs.Passed.{passed}
@@ -20,7 +20,7 @@ number-requires c κs = omega (arith, passed _ (c .before .before .pre) .fine .e
 new-requires : tie.Need-new-requires
 new-requires c κs =
     let p = passed _ (c .before .before .before .pre) in
-    rw (c .before .read-params .ensures, c .number .ensures) (counted _ (p .whole), scaled _ (p .params))
+    rw (c .number .ensures) (scaled _ (p .params))
 
 returns : tie.Need-returns
 unfolding zonesOf
