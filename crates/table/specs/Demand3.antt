@@ -1,5 +1,6 @@
 -- Demand 3 of scripts: the drawings that a script's run goes through.
-use mathlib.Core.List.{List, [], _∷_}
+use mathlib.Core.Path.{_≡_}
+use mathlib.Core.List.{List, [], _∷_, _++_}
 use Prim.Native.Nat.{ℕ}
 use Rattle.zones.specs.declared.state.HintState.{HintState}
 use Rattle.drawing.specs.declared.calls.Drawing.{Drawing}
@@ -14,6 +15,16 @@ unfoldable pub drawingAfter : HintState → Drawing → List Asked → Drawing
 drawingAfter st d [] = d
 drawingAfter st d (c ∷ cs) = drawingAfter st (nextOf st d (c .call)) cs
 
--- the new drawing of a script after some of its calls
+-- the drawing before one of some calls, or after the last
+pub record Along (st : HintState) (d : Drawing) (cs : List Asked) (e : Drawing) : Type 0 where
+  pub before : List Asked
+  pub after : List Asked
+  pub split : cs ≡ before ++ after
+  pub there : e ≡ drawingAfter st d before
+
+-- the new drawing of a script after some of its calls, and the drawings on the way there
 abbrev pub drawingIn : List ℕ → List Asked → Drawing
 drawingIn s cs = drawingAfter (zonesOf s) (newDrawing (numberAt (rawAt s) 1)) cs
+
+abbrev pub OnTheWay : List ℕ → List Asked → Drawing → Type 0
+OnTheWay s cs e = Along (zonesOf s) (newDrawing (numberAt (rawAt s) 1)) cs e

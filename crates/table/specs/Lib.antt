@@ -1,4 +1,5 @@
 pub mod Demand1
+pub mod Reached
 pub mod Demand3
 pub mod Lone
 pub mod Whole
