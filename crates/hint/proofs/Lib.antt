@@ -1,1 +1,3 @@
-pub mod Signs
+pub mod Laid
+pub mod Program
+pub mod Unique

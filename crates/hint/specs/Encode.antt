@@ -1,21 +1,45 @@
--- Words as bytes, the least first.
-use mathlib.Core.List.{List}
-use Prim.Native.Nat.{ℕ, zero, suc, _+_, _*_, _/_, _%_}
+-- The program's answer (01, "The script"): number, place and, if OK, the result, as words of four bytes, the least first.
+use mathlib.Core.Path.{_≡_}
+use mathlib.Core.Bool.{cond}
+use mathlib.Core.List.{List, [], _∷_, _++_, map}
+use Prim.Native.Nat.{ℕ, _+_, _*_, _/_, _%_}
 use lib.IntN.{ℤ, pos}
-use lib.ListN.{getD, set}
-use mir.Syntax.{w32}
-use mir.Val.{ofZ}
+use lib.ListN.{length, take, drop, getD, replicate}
+use Rattle.fixed.specs.Whole.{bitsOf}
+use Rattle.words.specs.declared.answer.Answer.{Answer}
+use Rattle.words.specs.Answers.{numberOf, placeOf, refuses}
+use Rattle.run.specs.Room.{fitted}
+use Rattle.script.specs.Script.{stepsIn, resultWords, scriptOf}
 
--- a word's 32 bits as a number
-unfoldable pub bitsOf : ℤ → ℕ
-bitsOf z = ofZ w32 z
+-- ---- words as bytes
+abbrev pub wordBytes : ℕ → List ℕ
+wordBytes n = n % 256 ∷ n / 256 % 256 ∷ n / 65536 % 256 ∷ n / 16777216 % 256 ∷ []
 
--- four bytes in place of those of word i
-unfoldable pub stored : List ℕ → ℕ → ℕ → List ℕ
-stored bytes i n =
-    set (set (set (set bytes (4 * i) (n % 256)) (4 * i + 1) (n / 256 % 256)) (4 * i + 2) (n / 65536 % 256)) (4 * i + 3) (n / 16777216 % 256)
+unfoldable pub bytesOf : List ℕ → List ℕ
+bytesOf [] = []
+bytesOf (w ∷ ws) = wordBytes w ++ bytesOf ws
 
--- the first k words of an output, from word 2 on
-unfoldable pub encoded : List ℤ → ℕ → List ℕ → List ℕ
-encoded out zero bytes = bytes
-encoded out (suc k) bytes = stored (encoded out k bytes) (k + 2) (bitsOf (getD out k (pos 0)))
+-- some words laid over bytes from word i on; the bytes before and behind them stand
+unfoldable pub laid : List ℕ → ℕ → List ℕ → List ℕ
+laid bytes i ws = take (4 * i) bytes ++ (bytesOf ws ++ drop (4 * i + 4 * length ws) bytes)
+
+-- ---- the answer
+-- number, place and, if OK, the result
+unfoldable pub answerWords : Answer → List ℤ → List ℕ
+answerWords a result = numberOf a ∷ placeOf a ∷ cond (refuses a) [] (map bitsOf result)
+
+-- the result that an output holds: its header, and as many record words as the header's last word says
+unfoldable pub resultIn : List ℤ → List ℤ
+resultIn out = take (4 + bitsOf (getD out 3 (pos 0))) out
+
+-- some words at the start of bytes, and how many bytes they are
+pub record Answered (ws bytes : List ℕ) (count : ℕ) (left : List ℕ) : Type 0 where
+  pub number : count ≡ 4 * length ws
+  pub memory : left ≡ laid bytes 0 ws
+
+-- ---- the program: the answer to a script that is run into 16,384 words, which leave 16,380 for the records
+abbrev pub lent : List ℤ
+lent = replicate 16384 (pos 0)
+
+unfoldable pub programWords : List ℕ → List ℕ
+programWords s = answerWords (scriptOf s lent .answer) (resultWords (fitted 16380 (stepsIn s) .words))

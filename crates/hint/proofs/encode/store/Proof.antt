@@ -1,9 +1,8 @@
--- `store` writes a word's four bytes, the least first. Assumes nothing.
-use mathlib.Core.Path.{refl}
+-- `store` lays a word over its bytes, by four stores. Assumes nothing.
 use native.Mathlib.Omega.{arith}
 use lib.ListN.{length-set}
 use borrow.Author.Needs.{needs}
-use Rattle.hint.specs.Encode.{stored}
+use Rattle.hint.proofs.Laid.{store-laid}
 use Rattle.hint.proofs.encode.store.Statement.{statement}
 use Rattle.hint.proofs.encode.store.Tie as tie
 
@@ -47,8 +46,7 @@ same-length : tie.Need-same-length
 same-length c = search needs
 
 returns : tie.Need-returns
-unfolding stored
-returns c = refl
+returns c = store-laid (c .args .bytes .now) (c .args .i) (c .args .word) (c .pre)
 
 pub store-spec : {M : Type 1} → statement M
 store-spec =

@@ -1,0 +1,47 @@
+-- `answer_to` lays what `run_script` answers and leaves. Assumes nothing.
+use mathlib.Core.Path.{_≡_, ap, _∙_}
+use mathlib.Core.List.{List}
+use lib.IntN.{ℤ}
+use borrow.Author.Needs.{needs}
+use Rattle.words.specs.declared.answer.Answer.{Answer}
+use Rattle.words.proofs.Answers.{says-is}
+use Rattle.script.specs.Script.{scriptOf}
+use Rattle.hint.specs.Encode.{answerWords, resultIn, lent}
+use Rattle.hint.proofs.Program.{program-words}
+use Rattle.hint.proofs.answer_to.Statement.{statement}
+use Rattle.hint.proofs.answer_to.Tie as tie
+
+slice-aggregate-run-script : tie.Need-slice-aggregate-run-script
+slice-aggregate-run-script c = search needs
+
+run-script-requires : tie.Need-run-script-requires
+run-script-requires c κs = search needs
+
+slice-aggregate-answered : tie.Need-slice-aggregate-answered
+slice-aggregate-answered c = search needs
+
+answered-requires : tie.Need-answered-requires
+answered-requires c κs = search needs
+
+same-length : tie.Need-same-length
+same-length c = search needs
+
+returns : tie.Need-returns
+returns c =
+    let a = c .before .before in
+    let r = a .before .before .before .before in
+    let s = r .before .before .before .before .args .script .now in
+    let o = r .run-script .ensures in
+    let w = ap (λ (x : Answer). answerWords x (resultIn (r .run-script .last .1 .0))) (says-is (o .answer)) ∙ ap (λ (l : List ℤ). answerWords (scriptOf s lent .answer) (resultIn l)) (o .memory) ∙ program-words s in
+    rw w at (a .answered .ensures)
+
+pub answer-to-spec : {M : Type 1} → statement M
+answer-to-spec =
+    tie.close
+    (tie.spec
+    slice-aggregate-run-script
+    run-script-requires
+    slice-aggregate-answered
+    answered-requires
+    same-length
+    returns)

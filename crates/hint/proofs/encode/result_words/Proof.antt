@@ -1,0 +1,55 @@
+-- `result_words` counts the header and the record words that it names, no more than there are. Assumes nothing.
+use mathlib.Core.Path.{_≡_, sym, ap, _∙_}
+use Prim.Native.Nat.{ℕ, min, _+_}
+use native.Mathlib.Omega.{arith}
+use lib.IntN.{ℤ, pos}
+use lib.ListN.{length, getD, length-take}
+use mir.Syntax.{w32}
+use mir.Val.{SFits}
+use mir.Facts.{toZ-ofZ}
+use borrow.Author.Needs.{needs}
+use Rattle.fixed.specs.Whole.{bitsOf}
+use Rattle.hint.specs.Encode.{resultIn}
+use Rattle.hint.proofs.encode.result_words.Statement.{statement}
+use Rattle.hint.proofs.encode.result_words.Tie as tie
+
+returns : tie.Need-returns
+unfolding resultIn
+returns c =
+    let o = c .before .args .out .now in
+    omega (arith, length-take (4 + bitsOf (getD o 3 (pos 0))) o)
+
+shared-slice-copy-out-bits-of : tie.Need-shared-slice-copy-out-bits-of
+shared-slice-copy-out-bits-of c = search needs
+
+bits-of-requires : tie.Need-bits-of-requires
+bits-of-requires c κs = search needs
+
+cast-least : tie.Need-cast-least
+cast-least c = search needs
+
+add-least : tie.Need-add-least
+add-least c = search needs
+
+least-requires : tie.Need-least-requires
+least-requires c κs = search needs
+
+returns-2 : tie.Need-returns-2
+unfolding resultIn
+returns-2 c =
+    let b = c .before in
+    let o = b .before .before .before .args .out .now in
+    let f : SFits w32 (getD o 3 (pos 0)) = search needs in
+    c .least .ensures ∙ ap (λ (n : ℕ). min (4 + n) (length o)) (b .bits-of .ensures ∙ ap bitsOf (toZ-ofZ f)) ∙ sym (length-take (4 + bitsOf (getD o 3 (pos 0))) o)
+
+pub result-words-spec : {M : Type 1} → statement M
+result-words-spec =
+    tie.close
+    (tie.spec
+    returns
+    shared-slice-copy-out-bits-of
+    bits-of-requires
+    cast-least
+    add-least
+    least-requires
+    returns-2)
