@@ -7,7 +7,7 @@ use Rattle.build.specs.Build.{initialOf, savedIn, savedAll, builtOf}
 use Rattle.build.specs.Ghosts.{emBottom, emTop, emBoxed, uncovered, baselined}
 use Rattle.build.specs.Place.{readyOf, lockedTurn, freeTurn, lockedTurns, freeTurns}
 use Rattle.fixed.specs.Fixed.{addF, subF, negF, absF, twiceF, mulF, overZero, quotientOf, divF, mulDivF, roundF, fractF, halfF, midpointF, truncF, minF, maxF}
-use Rattle.fixed.specs.Whole.{lowBits, wrap32, nearest}
+use Rattle.fixed.specs.Whole.{lowBits, signed, wrap32, nearest}
 use Rattle.hintmap.specs.Insert.{chosen, mayEnter, bars, tooHigh, again, putEdges, outcomeOf, insertIn}
 use Rattle.hintmap.specs.Map.{leading, line, mapOf, clearAhead, clearBehind}
 use Rattle.hintmap.specs.Stems.{Past, Made}
@@ -19,5 +19,5 @@ use Rattle.zones.specs.Zones.{sift, bluesZones, kept, greatestFrom, nearer, nea
 use Rattle.figures.specs.Rows.{rows, AllHold}
 
 pub starred : AllHold rows
-unfolding toNext movesOf roomUp roomDown choiceOf noteOf movedHint settleOf rescaledHint nextPlace upperOf notedOf turnOf passFrom firstPass liftBoth retryOf secondPass adjustOf initialOf savedIn savedAll builtOf emBottom emTop emBoxed uncovered baselined readyOf lockedTurn freeTurn lockedTurns freeTurns addF subF negF absF twiceF mulF overZero quotientOf divF mulDivF roundF fractF halfF midpointF truncF minF maxF lowBits wrap32 nearest chosen mayEnter bars tooHigh again putEdges outcomeOf insertIn leading line mapOf clearAhead clearBehind Past Made shapeOf edgeOf setupOf maskOf isActive cleared sameBytes holds firstHolding bottomGoal topGoal moveOf lifted captureOf emBox clampedScale boostOf stateOf sift bluesZones kept greatestFrom nearer nearestFrom nearestOf movedFlat deviceFlat keptIn readIn
+unfolding toNext movesOf roomUp roomDown choiceOf noteOf movedHint settleOf rescaledHint nextPlace upperOf notedOf turnOf passFrom firstPass liftBoth retryOf secondPass adjustOf initialOf savedIn savedAll builtOf emBottom emTop emBoxed uncovered baselined readyOf lockedTurn freeTurn lockedTurns freeTurns addF subF negF absF twiceF mulF overZero quotientOf divF mulDivF roundF fractF halfF midpointF truncF minF maxF lowBits signed wrap32 nearest chosen mayEnter bars tooHigh again putEdges outcomeOf insertIn leading line mapOf clearAhead clearBehind Past Made shapeOf edgeOf setupOf maskOf isActive cleared sameBytes holds firstHolding bottomGoal topGoal moveOf lifted captureOf emBox clampedScale boostOf stateOf sift bluesZones kept greatestFrom nearer nearestFrom nearestOf movedFlat deviceFlat keptIn readIn
 starred = (refl, (refl, (refl, (refl, (refl, (refl, (refl, (refl, (refl, (refl, (refl, (refl, (refl, (refl, (refl, tt)))))))))))))))

@@ -7,12 +7,12 @@ use stems::StemHint;
 use zones::HintState;
 ghost use Prim.Native.Nat.{_≤_};
 
-pub fn run() {
+pub(crate) fn run() {
     tables::run(b"captures", Rows::Captures);
 }
 
 // A row: a scale and parameters, a count of stems, and to the end seven numbers for each.
-pub fn captures_agree(row: &[i32]) -> bool {
+pub(crate) fn captures_agree(row: &[i32]) -> bool {
     let state = rows::state(row);
     let at = rows::after_pairs(row, 7);
     let stems = rows::count(row, at, 20);

@@ -5,13 +5,13 @@ use stems::Hint;
 use stems::StemHint;
 ghost use Prim.Native.Nat.{_≤_};
 
-pub fn run() {
+pub(crate) fn run() {
     tables::run(b"edges", Rows::Edges);
 }
 
 // A row: a stem, its number and a scale; of the bottom edge and of the top edge the kind, 1 if it is
 // locked, the height and the device height.
-pub fn edges_agree(row: &[i32]) -> bool {
+pub(crate) fn edges_agree(row: &[i32]) -> bool {
     let stem = StemHint {
         is_used: rows::flag(row, 3),
         min: rows::fixed(row, 1),

@@ -4,14 +4,14 @@ use crate::tables::Rows;
 use stems::HintMask;
 ghost use Prim.Native.Nat.{_≤_};
 
-pub fn run() {
+pub(crate) fn run() {
     tables::run(b"masks", Rows::Masks);
     tables::run(b"same masks", Rows::SameMasks);
 }
 
 // A row: a count and so many bytes, the mask's 12 bytes; a bit, 1 if it is active, and the 12 bytes
 // once it is cleared.
-pub fn mask_agrees(row: &[i32]) -> bool {
+pub(crate) fn mask_agrees(row: &[i32]) -> bool {
     let n = rows::count(row, 1, 13);
     let mask = rows::mask(row, 1);
     if !same_bytes(mask, row, 2 + n) {
@@ -25,7 +25,7 @@ pub fn mask_agrees(row: &[i32]) -> bool {
 }
 
 // A row: two counts, each with its bytes, and 1 if the masks are the same.
-pub fn same_agrees(row: &[i32]) -> bool {
+pub(crate) fn same_agrees(row: &[i32]) -> bool {
     let n = rows::count(row, 1, 13);
     let m = rows::count(row, 2 + n, 13);
     let same = rows::mask(row, 1).same(rows::mask(row, 2 + n));

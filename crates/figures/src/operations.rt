@@ -5,7 +5,7 @@ use crate::tables::Rows;
 use fixed::Fixed;
 
 // What a table runs: a method of `Fixed`, or the constants.
-pub enum Operation {
+pub(crate) enum Operation {
     Mul,
     Div,
     MulDiv,
@@ -28,7 +28,7 @@ pub enum Operation {
 }
 
 // Every table, in four groups.
-pub fn run() {
+pub(crate) fn run() {
     products_and_quotients();
     sums_and_differences();
     operations_on_one();
@@ -71,7 +71,7 @@ fn table(name: &[u8], operation: Operation) {
 }
 
 // A row: three operands, with 0 for one that is not taken, and the expected bits.
-pub fn answer_agrees(operation: Operation, row: &[i32]) -> bool {
+pub(crate) fn answer_agrees(operation: Operation, row: &[i32]) -> bool {
     let a = rows::fixed(row, 1);
     let b = rows::fixed(row, 2);
     let c = rows::fixed(row, 3);

@@ -5,7 +5,7 @@ use zones::BlueZone;
 use zones::HintState;
 ghost use Prim.Native.Nat.{_≤_};
 
-pub fn run() {
+pub(crate) fn run() {
     tables::run(b"zone lists", Rows::States);
     tables::run(b"zones by family", Rows::States);
     tables::run(b"zones by scale", Rows::States);
@@ -13,7 +13,7 @@ pub fn run() {
 
 // A row: a scale and parameters; 1 for em-box hints, 1 for suppression, boost, blue scale, and the
 // zones.
-pub fn state_agrees(row: &[i32]) -> bool {
+pub(crate) fn state_agrees(row: &[i32]) -> bool {
     let state = rows::state(row);
     let at = rows::after_pairs(row, 7);
     if !zones_agree(state, row, at + 4) {

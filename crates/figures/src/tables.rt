@@ -7,7 +7,7 @@ use crate::operations::Operation;
 use crate::states;
 
 // What the rows of a table are about.
-pub enum Rows {
+pub(crate) enum Rows {
     Numbers(Operation),
     Masks,
     SameMasks,
@@ -17,7 +17,7 @@ pub enum Rows {
 }
 
 // Runs a table, the next of the input.
-pub fn run(name: &[u8], about: Rows) {
+pub(crate) fn run(name: &[u8], about: Rows) {
     let count = rows::next_count();
     let mut differ = 0;
     for i in 0..count {

@@ -13,10 +13,9 @@ use drawing::move_to;
 use pen::Point;
 use zones::HintState;
 ghost use Prim.Native.Nat.{_≤_};
-ghost use Rattle.hints.specs.Hints.{Kept};
 
 // A call that writes records: 5 move, 6 line, 7 curve, 9 finish. Operands start at `at`.
-pub fn drawn(
+pub(crate) fn drawn(
     state: HintState,
     drawing: Drawing,
     kind: i32,
@@ -24,8 +23,7 @@ pub fn drawn(
     at: usize,
     out: &mut [i32],
 ) -> After
-    requires { ⌜ Kept state (drawing .hints) × (at ≤ 1000) ⌝ }
-    ensures { λ r. ⌜ Kept state (r .drawing .hints) ⌝ }
+    requires { ⌜ at ≤ 1000 ⌝ }
 {
     if kind == 5 {
         return move_to(state, drawing, point(row, at), out);
@@ -41,8 +39,7 @@ pub fn drawn(
 
 // A curve's three points stand one behind the other.
 fn curved(state: HintState, drawing: Drawing, row: &[i32], at: usize, out: &mut [i32]) -> After
-    requires { ⌜ Kept state (drawing .hints) × (at ≤ 1000) ⌝ }
-    ensures { λ r. ⌜ Kept state (r .drawing .hints) ⌝ }
+    requires { ⌜ at ≤ 1000 ⌝ }
 {
     let first = point(row, at);
     let second = point(row, at + 2);
@@ -50,9 +47,8 @@ fn curved(state: HintState, drawing: Drawing, row: &[i32], at: usize, out: &mut 
 }
 
 // A call that writes none: 1 stem, 2 hint mask, 3 counter mask, 4 clear, 8 close. Operands start at `at`.
-pub fn hinted(state: HintState, drawing: Drawing, kind: i32, row: &[i32], at: usize) -> Drawing
-    requires { ⌜ Kept state (drawing .hints) × (at ≤ 1000) ⌝ }
-    ensures { λ r. ⌜ Kept state (r .hints) ⌝ }
+pub(crate) fn hinted(state: HintState, drawing: Drawing, kind: i32, row: &[i32], at: usize) -> Drawing
+    requires { ⌜ at ≤ 1000 ⌝ }
 {
     if kind == 1 {
         return hstem(
@@ -84,7 +80,7 @@ fn point(row: &[i32], at: usize) -> Point
 }
 
 // Whether a call of this kind writes records.
-pub fn draws(kind: i32) -> bool {
+pub(crate) fn draws(kind: i32) -> bool {
     match kind {
         5 | 6 | 7 | 9 => true,
         _ => false,
@@ -92,7 +88,7 @@ pub fn draws(kind: i32) -> bool {
 }
 
 // How many numbers the operands from `at` on are.
-pub fn operands(kind: i32, row: &[i32], at: usize) -> usize
+pub(crate) fn operands(kind: i32, row: &[i32], at: usize) -> usize
     ensures { λ r. ⌜ r ≤ 14 ⌝ }
 {
     match kind {

@@ -6,11 +6,9 @@ use drawing::Drawing;
 use hints::Answer;
 use zones::HintState;
 ghost use Prim.Native.Nat.{_+_, _≤_, _<_};
-ghost use Rattle.hints.specs.Hints.{Kept};
-ghost use Rattle.figures_calls.specs.Turn.{Turned};
 
 // What a call of a row leaves: the drawing, where the row goes on, and whether all was as expected.
-pub struct Turn {
+pub(crate) struct Turn {
     pub drawing: Drawing,
     pub next: usize,
     pub agrees: bool,
@@ -18,7 +16,7 @@ pub struct Turn {
 
 // A row: a scale and parameters, the number of opening's answer, and the calls. No row has more than 400
 // numbers.
-pub fn row_agrees(row: &[i32]) -> bool {
+pub(crate) fn row_agrees(row: &[i32]) -> bool {
     if 400 < row.len() {
         return false;
     }
@@ -44,8 +42,8 @@ pub fn row_agrees(row: &[i32]) -> bool {
 
 // The call at `at`: its kind, its operands and, for one that writes records, what is expected.
 fn call_at(state: HintState, drawing: Drawing, row: &[i32], at: usize) -> Turn
-    requires { ⌜ Kept state (drawing .hints) × (at ≤ 400) ⌝ }
-    ensures { λ r. ⌜ Turned state at r ⌝ }
+    requires { ⌜ at ≤ 400 ⌝ }
+    ensures { λ r. ⌜ (at < r .next) × (r .next ≤ at + 40) ⌝ }
 {
     let kind = rows::number(row, at);
     let next = at + 1 + calls::operands(kind, row, at + 1);
@@ -62,8 +60,8 @@ fn call_at(state: HintState, drawing: Drawing, row: &[i32], at: usize) -> Turn
 // A call that writes records, with what is expected from `answer` on: the room, the number of its answer, the
 // count of words and the words.
 fn drawn_at(state: HintState, drawing: Drawing, row: &[i32], at: usize, answer: usize) -> Turn
-    requires { ⌜ Kept state (drawing .hints) × ((at ≤ 400) × ((at < answer) × (answer ≤ at + 15))) ⌝ }
-    ensures { λ r. ⌜ Turned state at r ⌝ }
+    requires { ⌜ (at ≤ 400) × ((at < answer) × (answer ≤ at + 15)) ⌝ }
+    ensures { λ r. ⌜ (at < r .next) × (r .next ≤ at + 40) ⌝ }
 {
     let kind = rows::number(row, at);
     let mut out = lent::FILLED;

@@ -3,7 +3,7 @@ ghost use Prim.Native.Nat.{_≤_, _<_};
 
 // What stands in the buffer before a call. No record has such words: they are no kinds of records, and
 // their low 10 bits are not clear.
-pub const FILLED: [i32; 20] = [
+pub(crate) const FILLED: [i32; 20] = [
     1701,
     1702,
     1703,
@@ -28,7 +28,7 @@ pub const FILLED: [i32; 20] = [
 
 // From `at` on: a count and so many words, which stand in the buffer from place 3 on. Every other word is as
 // it was.
-pub fn words_agree(out: &[i32; 20], row: &[i32], at: usize) -> bool
+pub(crate) fn words_agree(out: &[i32; 20], row: &[i32], at: usize) -> bool
     requires { ⌜ at ≤ 1000 ⌝ }
 {
     let count = rows::count(row, at, 16);

@@ -2,17 +2,14 @@
 use drawing::Opened;
 use drawing::Opening;
 use drawing::open;
-ghost use Rattle.hints.specs.Hints.{Kept};
 
 // A drawing at the row's scale and parameters, or the one beside a refusal. A list has up to eight pairs.
-pub fn opened_by(row: &[i32]) -> Opened
-    ensures { λ r. ⌜ Kept (r .state) (r .drawing .hints) ⌝ }
-{
+pub(crate) fn opened_by(row: &[i32]) -> Opened {
     open(rows::params(row, 8), rows::fixed(row, 1))
 }
 
 // The answer's number in 01's table.
-pub fn number_of(answer: Opening) -> i32 {
+pub(crate) fn number_of(answer: Opening) -> i32 {
     match answer {
         Opening::Ok => 0,
         Opening::BadScale => 2,

@@ -2,7 +2,7 @@
 use crate::cases;
 
 // Runs a table, the next of the input.
-pub fn run(name: &[u8]) {
+pub(crate) fn run(name: &[u8]) {
     let count = rows::next_count();
     let mut differ = 0;
     for i in 0..count {

@@ -14,7 +14,7 @@ use stems::StemHint;
 use zones::HintState;
 ghost use Prim.Native.Nat.{_+_, _≤_};
 
-pub fn run() {
+pub(crate) fn run() {
     tables::run(b"stem 16 to 80 at scale 2048", Rows::Builds);
     tables::run(b"stems and zones", Rows::Builds);
     tables::run(b"em boxes", Rows::Builds);
@@ -24,7 +24,7 @@ pub fn run() {
 }
 
 // A row: a scale and parameters, stems, the initial map's edges, and what two masks make of them.
-pub fn build_agrees(row: &[i32]) -> bool {
+pub(crate) fn build_agrees(row: &[i32]) -> bool {
     let state = rows::state(row);
     let at = rows::after_pairs(row, 7);
     let stems = stems_at(row, at);

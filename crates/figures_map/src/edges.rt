@@ -4,7 +4,7 @@ use stems::Hint;
 ghost use Prim.Native.Nat.{_+_, _≤_};
 
 // From `at` on: the count of edges, and seven numbers for each.
-pub fn edges_agree(map: HintMap, row: &[i32], at: usize) -> bool
+pub(crate) fn edges_agree(map: HintMap, row: &[i32], at: usize) -> bool
     requires { ⌜ at ≤ 1000 ⌝ }
 {
     let count = rows::count(row, at, 20);
@@ -21,7 +21,7 @@ pub fn edges_agree(map: HintMap, row: &[i32], at: usize) -> bool
 }
 
 // Where the row goes on after the edges.
-pub fn after_edges(row: &[i32], at: usize) -> usize
+pub(crate) fn after_edges(row: &[i32], at: usize) -> usize
     requires { ⌜ at ≤ 1000 ⌝ }
     ensures { λ r. ⌜ r ≤ at + 141 ⌝ }
 {
@@ -63,7 +63,7 @@ fn line_agrees(edge: Hint, row: &[i32], at: usize) -> bool
 }
 
 // From `at` to the end: a count of heights, and for each the height and where the map puts it.
-pub fn heights_agree(map: HintMap, row: &[i32], at: usize) -> bool
+pub(crate) fn heights_agree(map: HintMap, row: &[i32], at: usize) -> bool
     requires { ⌜ at ≤ 1000 ⌝ }
 {
     let count = rows::count(row, at, 20);

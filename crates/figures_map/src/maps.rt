@@ -9,13 +9,13 @@ use stems::Hint;
 use stems::StemHint;
 ghost use Prim.Native.Nat.{_+_, _≤_};
 
-pub fn run() {
+pub(crate) fn run() {
     tables::run(b"maps edge by edge", Rows::Maps);
 }
 
 // A row: a scale, 1 if the initial map is given, the stems of that map and those of the map; the map's
 // edges, and heights.
-pub fn map_agrees(row: &[i32]) -> bool {
+pub(crate) fn map_agrees(row: &[i32]) -> bool {
     let none = HintMap::new(rows::fixed(row, 1));
     let initial = with_stems(none, row, 3, none, false);
     let then = after_stems(row, 3);
@@ -61,7 +61,7 @@ fn stem_at(row: &[i32], at: usize) -> StemHint
 }
 
 // A stem that is not used.
-pub fn stem(min: Fixed, max: Fixed) -> StemHint {
+pub(crate) fn stem(min: Fixed, max: Fixed) -> StemHint {
     StemHint {
         is_used: false,
         min,
@@ -72,7 +72,7 @@ pub fn stem(min: Fixed, max: Fixed) -> StemHint {
 }
 
 // A stem's edges are put in, or dropped. No map here has more than 96 edges.
-pub fn with_stem(
+pub(crate) fn with_stem(
     map: HintMap,
     stem: StemHint,
     index: u8,

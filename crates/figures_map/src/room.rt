@@ -5,7 +5,7 @@ use hintmap::HintMap;
 use stems::StemHint;
 ghost use Prim.Native.Nat.{_≤_};
 
-pub fn run() {
+pub(crate) fn run() {
     let height = Fixed { bits: 200 * 65536 };
     let single = ghost_at(height);
     let pair = maps::stem(height, height.add(Fixed::ONE));

@@ -3,13 +3,13 @@ use crate::builds;
 use crate::maps;
 
 // What the rows of a table are about.
-pub enum Rows {
+pub(crate) enum Rows {
     Maps,
     Builds,
 }
 
 // Runs a table, the next of the input.
-pub fn run(name: &[u8], about: Rows) {
+pub(crate) fn run(name: &[u8], about: Rows) {
     let count = rows::next_count();
     let mut differ = 0;
     for i in 0..count {

@@ -15,18 +15,18 @@ use Rattle.replay.specs.Judging.{firstDifferent, verdictOf}
 module _ (head stored : List ℕ) (r : Result) (said : Answer) (left : List ℤ) (s : Scripted r said left) where
   pub other-number : (numberOf said ≡ rawAt head 4 → ⊥) → Number ≡ verdictOf head stored r
   unfolding verdictOf
-  other-number n = rw (sym (s .answer), ne-eqb (numberOf said) (rawAt head 4) n)
+  other-number n = rw (sym (s .answer .number), ne-eqb (numberOf said) (rawAt head 4) n)
 
   pub other-place : numberOf said ≡ rawAt head 4 → (placeOf said ≡ rawAt head 5 → ⊥) → Place ≡ verdictOf head stored r
   unfolding verdictOf
-  other-place n p = rw (sym (s .answer), eq-eqb (numberOf said) (rawAt head 4) n, ne-eqb (placeOf said) (rawAt head 5) p)
+  other-place n p = rw (sym (s .answer .number), sym (s .answer .place), eq-eqb (numberOf said) (rawAt head 4) n, ne-eqb (placeOf said) (rawAt head 5) p)
 
   pub other-word : numberOf said ≡ rawAt head 4 → placeOf said ≡ rawAt head 5 → firstDifferent left stored < length left → Word (firstDifferent left stored) ≡ verdictOf head stored r
   unfolding verdictOf
   other-word n p w =
-      rw (sym (s .answer), sym (s .memory), eq-eqb (numberOf said) (rawAt head 4) n, eq-eqb (placeOf said) (rawAt head 5) p, lt-ltb (firstDifferent left stored) (length left) w)
+      rw (sym (s .answer .number), sym (s .answer .place), sym (s .memory), eq-eqb (numberOf said) (rawAt head 4) n, eq-eqb (placeOf said) (rawAt head 5) p, lt-ltb (firstDifferent left stored) (length left) w)
 
   pub same-words : numberOf said ≡ rawAt head 4 → placeOf said ≡ rawAt head 5 → length left ≤ firstDifferent left stored → Same ≡ verdictOf head stored r
   unfolding verdictOf
   same-words n p w =
-      rw (sym (s .answer), sym (s .memory), eq-eqb (numberOf said) (rawAt head 4) n, eq-eqb (placeOf said) (rawAt head 5) p, le-ltb (firstDifferent left stored) (length left) w)
+      rw (sym (s .answer .number), sym (s .answer .place), sym (s .memory), eq-eqb (numberOf said) (rawAt head 4) n, eq-eqb (placeOf said) (rawAt head 5) p, le-ltb (firstDifferent left stored) (length left) w)

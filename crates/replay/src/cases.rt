@@ -5,21 +5,21 @@ use words::natural;
 ghost use Prim.Native.Nat.{_*_, _≤_};
 ghost use lib.ListN.{length};
 
-pub enum Seen {
+pub(crate) enum Seen {
     // The file ends within the case, or the case is too large.
     Cut,
     Run(Judged),
 }
 
 // A case's number and mark, as stored, and how its run differs.
-pub struct Judged {
+pub(crate) struct Judged {
     pub number: usize,
     pub mark: usize,
     pub verdict: Verdict,
 }
 
 // One case. There is place for 16,400 words of script, which are more than a script may have, and for 4,096 of room.
-pub fn case(file: i32) -> Seen {
+pub(crate) fn case(file: i32) -> Seen {
     let mut script = [0u8; 65600];
     let mut stored = [0u8; 16384];
     let mut out = [0i32; 4096];

@@ -11,7 +11,7 @@ ghost use Rattle.script.specs.Script.{scriptOf};
 ghost use Rattle.replay.specs.Judging.{lent, firstDifferent, verdictOf};
 
 // Where a run first differs from what is stored.
-pub enum Verdict {
+pub(crate) enum Verdict {
     Same,
     Number,
     Place,
@@ -48,7 +48,7 @@ fn first_different(out: &[i32], stored: &[u8]) -> usize
 }
 
 // Runs a script. The six words of a case's header have the fill at 2, the number at 4 and the place at 5.
-pub fn judged(head: &[u8], script: &[u8], stored: &[u8], out: &mut [i32]) -> Verdict
+pub(crate) fn judged(head: &[u8], script: &[u8], stored: &[u8], out: &mut [i32]) -> Verdict
     requires { ⌜ (24 ≤ length (now head)) × (4 * length (now out) ≤ length (now stored)) ⌝ }
     ensures { λ r. ⌜ r ≡ verdictOf (now (head .entry)) (now (stored .entry)) (scriptOf (now (script .entry)) (lent (numberAt (rawAt (now (head .entry))) 2) (length (now (out .entry))) (now (out .entry)))) ⌝ }
 {

@@ -50,7 +50,7 @@ impl Tally {
 }
 
 // The tables of scripts.
-pub fn scripts(file: i32) {
+pub(crate) fn scripts(file: i32) {
     table(b"the whole case", file);
     table(b"lengths", file);
     table(b"header", file);
@@ -67,7 +67,7 @@ pub fn scripts(file: i32) {
 }
 
 // The sample, which is one table.
-pub fn sample(file: i32) {
+pub(crate) fn sample(file: i32) {
     let tally = table(b"sample", file);
     end(file);
     totals(tally);

@@ -1,13 +1,12 @@
--- `cases::row_agrees` is safe and ends. The loop's invariant: the hints have what those of every drawing have. The measure is what is left of the row. Assumes nothing.
+-- `cases::row_agrees` is safe and ends. Its loop has nothing to keep; the measure is what is left of the row. Assumes nothing.
 use Prim.Native.Nat.{_-_}
 use lib.ListN.{length}
 use borrow.Author.Needs.{needs}
-use Rattle.hints.specs.Hints.{Kept}
 use Rattle.figures_calls.proofs.cases.row_agrees.Statement.{statement}
 use Rattle.figures_calls.proofs.cases.row_agrees.Tie as tie
 
 abbrev Inv-loop : tie.InvT-loop
-Inv-loop row pairs state drawing₀ at₀ drawing at = Kept state (drawing .hints)
+Inv-loop row pairs state drawing₀ at₀ drawing at = Unit {0}
 
 abbrev μ-loop : tie.MeasureT-loop
 μ-loop row pairs state drawing₀ at₀ drawing at = length row - at
