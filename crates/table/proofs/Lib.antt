@@ -6,4 +6,5 @@ pub mod Sound
 pub mod Made
 pub mod Demand3
 pub mod Lone
+pub mod Baseline
 pub mod Whole
