@@ -6,5 +6,6 @@ pub mod Sound
 pub mod Made
 pub mod Demand3
 pub mod Lone
+pub mod Moves
 pub mod Baseline
 pub mod Whole
