@@ -7,3 +7,4 @@ pub mod Made
 pub mod Demand3
 pub mod Lone
 pub mod Whole
+pub mod Scales
