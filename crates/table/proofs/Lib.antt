@@ -9,3 +9,4 @@ pub mod Lone
 pub mod Moves
 pub mod Baseline
 pub mod Whole
+pub mod Scales
