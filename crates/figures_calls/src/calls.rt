@@ -47,7 +47,13 @@ fn curved(state: HintState, drawing: Drawing, row: &[i32], at: usize, out: &mut 
 }
 
 // A call that writes none: 1 stem, 2 hint mask, 3 counter mask, 4 clear, 8 close. Operands start at `at`.
-pub(crate) fn hinted(state: HintState, drawing: Drawing, kind: i32, row: &[i32], at: usize) -> Drawing
+pub(crate) fn hinted(
+    state: HintState,
+    drawing: Drawing,
+    kind: i32,
+    row: &[i32],
+    at: usize,
+) -> Drawing
     requires { ⌜ at ≤ 1000 ⌝ }
 {
     if kind == 1 {

@@ -68,7 +68,7 @@ module _ (b : List ℕ) (i : ℕ) (ws : List ℕ) (h : 4 * i + 4 * length ws ≤
       let rest = drop (4 * i + 4 * length (ws ++ vs)) b in
       let fore : take n (f ++ drop n b) ≡ f = take-at f (drop n b) n front in
       let aft : drop (n + 4 * length vs) (f ++ drop n b) ≡ rest =
-          sym (drop-drop (4 * length vs) n (f ++ drop n b)) ∙ ap (drop (4 * length vs)) (drop-at f (drop n b) n front) ∙ drop-drop (4 * length vs) n b ∙ ap (λ (x : ℕ). drop x b) m in
+      sym (drop-drop (4 * length vs) n (f ++ drop n b)) ∙ ap (drop (4 * length vs)) (drop-at f (drop n b) n front) ∙ drop-drop (4 * length vs) n b ∙ ap (λ (x : ℕ). drop x b) m in
       rw (k, sym (append-assoc (take (4 * i) b) (bytesOf ws) (drop n b)), fore, aft, bytes-append ws vs)
       (append-assoc (take (4 * i) b) (bytesOf ws) (bytesOf vs ++ rest) ∙ ap (λ (l : List ℕ). take (4 * i) b ++ l) (sym (append-assoc (bytesOf ws) (bytesOf vs) rest)))
 

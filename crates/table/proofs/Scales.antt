@@ -289,8 +289,8 @@ edge-scale : (n : HintMap) (i : ℕ) → edge n i .scale ≡ getD (take (n .len)
 edge-scale n i = sym (List·getD-map (λ (e : Hint). e .scale) (view n) i noHint) ∙ rw map-take
 
 -- the second pass keeps them
-pub adjust-scaled : (m : HintMap) → Good m → (i : ℕ) → edge (adjustOf m) i .scale ≡ edge (firstPass (startOf m) .map) i .scale
-adjust-scaled m g i =
+pub adjust-scaled : (m : HintMap) (i : ℕ) → edge (adjustOf m) i .scale ≡ edge (firstPass (startOf m) .map) i .scale
+adjust-scaled m i =
     let first = firstPass (startOf m) .map in
     let l : adjustOf m .len ≡ first .len = adjust-kept m .len ∙ sym (first-kept (startOf m) .len) in
     cc (edge-scale (adjustOf m) i, adjust-scales m, edge-scale first i)

@@ -72,8 +72,8 @@ loop-again c =
     let f : SFits w32 (getD o (l .loop .i) (pos 0)) = search needs in
     let w : b .bits-of .result ≡ bitsOf (getD o (l .loop .i) (pos 0)) = b .bits-of .ensures ∙ ap bitsOf (toZ-ofZ f) in (
       c .before .before .store .ensures ∙ ap (λ (x : List ℕ). laid x (l .loop .i + 2) (b .bits-of .result ∷ [])) (l .loop .inv .0) ∙
-      laid-behind (begin l .args .bytes .now) 2 (done l) (room l) (b .bits-of .result ∷ []) (l .loop .i + 2) (omega (arith, many l)) ∙
-      ap (laid (begin l .args .bytes .now) 2) (ap (λ (n : ℕ). done l ++ (n ∷ [])) w ∙ sym (one-more o (l .loop .i) (omega arith))),
+          laid-behind (begin l .args .bytes .now) 2 (done l) (room l) (b .bits-of .result ∷ []) (l .loop .i + 2) (omega (arith, many l)) ∙
+          ap (laid (begin l .args .bytes .now) 2) (ap (λ (n : ℕ). done l ++ (n ∷ [])) w ∙ sym (one-more o (l .loop .i) (omega arith))),
       omega arith,
     )
 
