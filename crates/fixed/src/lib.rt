@@ -132,7 +132,7 @@ impl Fixed {
     pub fn abs(self) -> Fixed
         ensures { λ r. ⌜ r ≡ absF self ⌝ }
     {
-        if self.bits < 0 {
+        if self.less(Fixed::ZERO) {
             return self.neg();
         }
         self

@@ -1,9 +1,8 @@
 -- `Fixed::abs` meets its contract, by the sign. Assumes nothing.
 use borrow.Author.Needs.{needs}
-use mathlib.Core.Path.{ap, _∙_}
+use mathlib.Core.Path.{sym, ap, _∙_}
 use mir.Syntax.{w32}
 use mir.Val.{SFits}
-use mir.Facts.{toZ-ofZ}
 use Rattle.fixed.specs.Fixed.{fromBits, wrapF, absF, negF}
 use Rattle.fixed.proofs.Nearest.{abs-below, abs-above}
 use Rattle.fixed.proofs.Fixed.abs.Statement.{statement}
@@ -13,20 +12,23 @@ module _ (s : tie.Start) where
   fs : SFits w32 (s .args .self .bits)
   fs = search needs
 
+less-requires : tie.Need-less-requires
+less-requires c κs = search needs
+
 neg-requires : tie.Need-neg-requires
 neg-requires c κs = search needs
 
 returns : tie.Need-returns
 unfolding absF negF
 returns c =
-    let s = c .before .before .before .before in
-    c .neg .ensures ∙ ap wrapF (abs-below (s .args .self .bits) (rw (toZ-ofZ (fs s)) at (c .before .if1 .taken)))
+    let l = c .before .before in
+    c .neg .ensures ∙ ap wrapF (abs-below (l .before .args .self .bits) (sym (l .less .ensures) ∙ c .before .if1 .taken))
 
 returns-2 : tie.Need-returns-2
 unfolding absF
 returns-2 c =
-    let s = c .before .before .before in
-    ap fromBits (abs-above _ (fs s) (rw (toZ-ofZ (fs s)) at (c .if1 .left)))
+    let l = c .before in
+    ap fromBits (abs-above _ (fs (l .before)) (sym (l .less .ensures) ∙ c .if1 .left))
 
 pub abs-spec : {M : Type 1} → statement M
-abs-spec = tie.close (tie.spec neg-requires returns returns-2)
+abs-spec = tie.close (tie.spec less-requires neg-requires returns returns-2)

@@ -21,7 +21,7 @@ returns : tie.Need-returns
 unfolding halfF
 returns c =
     let f = fs (c .before .before) in
-    rw (toZ-ofZ f, toZ-ofZ (half-fits _ f))
+    simp (toZ-ofZ f, toZ-ofZ (half-fits _ f))
 
 pub half-spec : {M : Type 1} → statement M
 half-spec = tie.close (tie.spec div-t2 returns)

@@ -23,7 +23,7 @@ returns : tie.Need-returns
 unfolding mulF
 returns c =
     let s = c .before .before .before in
-    ap fromBits (read w32 (c .ratio .result) (c .ratio .ok) ∙ c .ratio .ensures ∙ rw (toZ-ofZ (fs s), toZ-ofZ (fb s)))
+    ap fromBits (read w32 (c .ratio .result) (c .ratio .ok) ∙ c .ratio .ensures ∙ simp (toZ-ofZ (fs s), toZ-ofZ (fb s)))
 
 pub mul-spec : {M : Type 1} → statement M
 mul-spec = tie.close (tie.spec ratio-requires returns)

@@ -36,7 +36,7 @@ returns : tie.Need-returns
 unfolding mulDivF
 returns c =
     let s = c .before .before .before .before .before in
-    ap fromBits (read w32 (c .ratio .result) (c .ratio .ok) ∙ c .ratio .ensures ∙ rw (toZ-ofZ (fs s), toZ-ofZ (fb s), divisor (c .before .before .before)))
+    ap fromBits (read w32 (c .ratio .result) (c .ratio .ok) ∙ c .ratio .ensures ∙ simp (toZ-ofZ (fs s), toZ-ofZ (fb s), divisor (c .before .before .before)))
 
 pub mul-div-spec : {M : Type 1} → statement M
 mul-div-spec = tie.close (tie.spec size-requires ratio-requires returns)
