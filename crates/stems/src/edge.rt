@@ -229,8 +229,7 @@ impl Hint {
     pub fn locked_at(self, height: Fixed) -> Hint
         ensures { λ r. ⌜ r ≡ lockedAt self height ⌝ }
     {
-        let mut edge = self;
-        edge.ds_coord = height;
+        let mut edge = self.at_device(height);
         edge.locked = true;
         edge
     }
