@@ -18,7 +18,7 @@ returns : tie.Need-returns
 unfolding lifted
 returns c =
     let e = c .before .before in
-    rw (sym (e .before .is-valid .ensures), e .if1 .taken, sym (c .before .add .ensures)) (c .locked-at .ensures)
+    simp (sym (e .before .is-valid .ensures), e .if1 .taken, sym (c .before .add .ensures)) (c .locked-at .ensures)
 
 returns-2 : tie.Need-returns-2
 unfolding lifted

@@ -24,7 +24,7 @@ at-most-requires-2 c κs = search needs
 returns-2 : tie.Need-returns-2
 returns-2 c =
     let e = c .before .before in
-    rw (sym (e .before .before .sub .ensures), sym (e .before .at-most .ensures), not-false (e .before .at-most .result) (e .if1 .left), sym (c .before .add .ensures)) (c .at-most2 .ensures)
+    simp (sym (e .before .before .sub .ensures), sym (e .before .at-most .ensures), not-false (e .before .at-most .result) (e .if1 .left), sym (c .before .add .ensures)) (c .at-most2 .ensures)
 
 pub within-spec : {M : Type 1} → statement M
 within-spec =
