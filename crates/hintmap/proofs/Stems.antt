@@ -52,14 +52,14 @@ above : (e : Edges) (x : Hint) → lessF (height x) (height (firstOf e)) ≡ fal
 unfolding bars top
 above (One y) x p q = apart (height x) (height y) p (neither _ (isPairTop x) q .0)
 above (Two b t) x p q =
-    let u : atMostF (height x) (height t) ≡ false = neither _ (isPairTop x) (neither (sameF (height x) (height b)) _ q .1) .0 in
+    let u : atMostF (height x) (height t) ≡ false = neither (isPairTop x) _ (neither (sameF (height x) (height b)) _ q .1) .1 in
     omega heights
 
 -- and no pair's top
 bars-top : (e : Edges) (x : Hint) → bars x e ≡ false → isPairTop x ≡ false
 unfolding bars
 bars-top (One y) x q = neither (sameF (height x) (height y)) _ q .1
-bars-top (Two b t) x q = neither (atMostF (height x) (height t)) _ (neither (sameF (height x) (height b)) _ q .1) .1
+bars-top (Two b t) x q = neither _ (atMostF (height x) (height t)) (neither (sameF (height x) (height b)) _ q .1) .0
 
 -- what is put in above z stays above z
 past-put : (e : Edges) (z : Fixed) (es : List Hint) (at : ℕ) → Past z es → z .bits <ℤ height (firstOf e) .bits → Past z (put es at e)

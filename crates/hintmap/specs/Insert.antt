@@ -41,7 +41,7 @@ mayEnter n (Two b t) = not (lessF (t .«cs_coord») (b .«cs_coord»)) && ltb n 
 unfoldable pub bars : Hint → Edges → Bool
 bars x (One e) = sameF (x .«cs_coord») (e .«cs_coord») || isPairTop x
 bars x (Two b t) =
-    sameF (x .«cs_coord») (b .«cs_coord») || (atMostF (x .«cs_coord») (t .«cs_coord») || isPairTop x)
+    sameF (x .«cs_coord») (b .«cs_coord») || (isPairTop x || atMostF (x .«cs_coord») (t .«cs_coord»))
 
 -- either lies above x on the device
 unfoldable pub tooHigh : Hint → Edges → Bool

@@ -82,10 +82,10 @@ impl Edges {
                 if x.cs_coord.same(b.cs_coord) {
                     return true;
                 }
-                if x.cs_coord.at_most(t.cs_coord) {
+                if x.is_pair_top() {
                     return true;
                 }
-                x.is_pair_top()
+                x.cs_coord.at_most(t.cs_coord)
             }
         }
     }

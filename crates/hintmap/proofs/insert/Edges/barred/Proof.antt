@@ -28,15 +28,15 @@ returns-2 : tie.Need-returns-2
 unfolding bars
 returns-2 c = rw (c .before .before .before .self2 .given .1, sym (c .before .same2 .ensures), c .if2 .taken)
 
-at-most-requires : tie.Need-at-most-requires
-at-most-requires c κs = search needs
+is-pair-top-requires-2 : tie.Need-is-pair-top-requires-2
+is-pair-top-requires-2 c κs = search needs
 
 returns-3 : tie.Need-returns-3
 unfolding bars
-returns-3 c = rw (c .before .before .before .before .before .self2 .given .1, sym (c .before .before .before .same2 .ensures), c .before .before .if2 .left, sym (c .before .at-most .ensures), c .if3 .taken)
+returns-3 c = rw (c .before .before .before .before .before .self2 .given .1, sym (c .before .before .before .same2 .ensures), c .before .before .if2 .left, sym (c .before .is-pair-top2 .ensures), c .if3 .taken)
 
-is-pair-top-requires-2 : tie.Need-is-pair-top-requires-2
-is-pair-top-requires-2 c κs = search needs
+at-most-requires : tie.Need-at-most-requires
+at-most-requires c κs = search needs
 
 returns-4 : tie.Need-returns-4
 unfolding bars
@@ -44,7 +44,7 @@ returns-4 c = rw (c .before .before .before .before .self .given .1, sym (c .bef
 
 returns-5 : tie.Need-returns-5
 unfolding bars
-returns-5 c = rw (c .before .before .before .before .before .before .self2 .given .1, sym (c .before .before .before .before .same2 .ensures), c .before .before .before .if2 .left, sym (c .before .before .at-most .ensures), c .before .if3 .left) (c .is-pair-top2 .ensures)
+returns-5 c = rw (c .before .before .before .before .before .before .self2 .given .1, sym (c .before .before .before .before .same2 .ensures), c .before .before .before .if2 .left, sym (c .before .before .is-pair-top2 .ensures), c .before .if3 .left) (c .at-most .ensures)
 
 pub barred-spec : {M : Type 1} → statement M
 barred-spec =
@@ -57,8 +57,8 @@ barred-spec =
     enum-known-self-2
     same-requires-2
     returns-2
-    at-most-requires
-    returns-3
     is-pair-top-requires-2
+    returns-3
+    at-most-requires
     returns-4
     returns-5)
