@@ -9,47 +9,46 @@ use zones::Blue;
 use zones::Blues;
 use zones::HintParams;
 use zones::HintState;
-ghost use Prim.Native.Nat.{_+_, _*_, _≤_};
-ghost use Rattle.rows.specs.Given.{Within};
+ghost use mathlib.Core.Path.{_≡_};
+ghost use Prim.Native.Nat.{_≤_};
+ghost use Rattle.rows.specs.Given.{pairIn, bluesIn, paramsIn, afterPairsIn, stateIn, maskIn, kindNumber};
 
 // The zones of the row's scale and parameters. No row has a scale below 1, where this takes 1.
-pub fn state(row: &[i32]) -> HintState {
-    let scale = number(row, 1);
-    if 0 < scale {
-        return HintState::new(params(row, 7), Fixed { bits: scale });
-    }
-    HintState::new(params(row, 7), Fixed { bits: 1 })
+pub fn state(row: &[i32]) -> HintState
+    ensures { λ r. ⌜ r ≡ stateIn (now (row .entry)) ⌝ }
+{
+    HintState::new(params(row, 7), fixed(row, 1).max(Fixed::EPSILON))
 }
 
 // From place 2 on: blue scale, shift, fuzz and group; the counts of blues, other blues, family blues and family
 // other blues, each at most so many; the pairs.
 pub fn params(row: &[i32], most: usize) -> HintParams
     requires { ⌜ most ≤ 8 ⌝ }
-    ensures { λ r. ⌜ Within most r ⌝ }
+    ensures { λ r. ⌜ r ≡ paramsIn (now (row .entry)) most ⌝ }
 {
-    let others = 10 + 2 * count(row, 6, most);
-    let family = others + 2 * count(row, 7, most);
-    let family_others = family + 2 * count(row, 8, most);
-    let blues = blues_at(row, 10, count(row, 6, most));
-    let other_blues = blues_at(row, others, count(row, 7, most));
-    let family_blues = blues_at(row, family, count(row, 8, most));
-    let family_other_blues = blues_at(row, family_others, count(row, 9, most));
+    let blues = count(row, 6, most);
+    let others = count(row, 7, most);
+    let family = count(row, 8, most);
+    let family_others = count(row, 9, most);
+    let at_others = 10 + 2 * blues;
+    let at_family = at_others + 2 * others;
+    let at_family_others = at_family + 2 * family;
     HintParams {
         blue_scale: fixed(row, 2),
         blue_shift: fixed(row, 3),
         blue_fuzz: fixed(row, 4),
         language_group: number(row, 5),
-        blues,
-        other_blues,
-        family_blues,
-        family_other_blues,
+        blues: blues_at(row, 10, blues),
+        other_blues: blues_at(row, at_others, others),
+        family_blues: blues_at(row, at_family, family),
+        family_other_blues: blues_at(row, at_family_others, family_others),
     }
 }
 
 // Where the row goes on after the pairs.
 pub fn after_pairs(row: &[i32], most: usize) -> usize
     requires { ⌜ most ≤ 8 ⌝ }
-    ensures { λ r. ⌜ r ≤ 10 + 8 * most ⌝ }
+    ensures { λ r. ⌜ r ≡ afterPairsIn (now (row .entry)) most ⌝ }
 {
     let blues = count(row, 6, most) + count(row, 7, most);
     let family = count(row, 8, most) + count(row, 9, most);
@@ -59,7 +58,7 @@ pub fn after_pairs(row: &[i32], most: usize) -> usize
 // So many pairs from `at` on. Numbers of the row fill the places past the count, and an eighth pair has none.
 fn blues_at(row: &[i32], at: usize, count: usize) -> Blues
     requires { ⌜ at ≤ 100 ⌝ }
-    ensures { λ r. ⌜ r .count ≤ count ⌝ }
+    ensures { λ r. ⌜ r ≡ bluesIn (now (row .entry)) at count ⌝ }
 {
     let pairs = [
         pair_at(row, at),
@@ -75,6 +74,7 @@ fn blues_at(row: &[i32], at: usize, count: usize) -> Blues
 
 fn pair_at(row: &[i32], at: usize) -> Blue
     requires { ⌜ at ≤ 200 ⌝ }
+    ensures { λ r. ⌜ r ≡ pairIn (now (row .entry)) at ⌝ }
 {
     Blue {
         bottom: fixed(row, at),
@@ -85,6 +85,7 @@ fn pair_at(row: &[i32], at: usize) -> Blue
 // The mask of a count at `at`, at most 13, and the bytes after it.
 pub fn mask(row: &[i32], at: usize) -> HintMask
     requires { ⌜ at ≤ 1000 ⌝ }
+    ensures { λ r. ⌜ r ≡ maskIn (now (row .entry)) at ⌝ }
 {
     let n = count(row, at, 13);
     let mut bytes = [0u8; 13];
@@ -95,7 +96,9 @@ pub fn mask(row: &[i32], at: usize) -> HintMask
 }
 
 // The number of a kind of edge.
-pub fn kind_number(kind: Kind) -> i32 {
+pub fn kind_number(kind: Kind) -> i32
+    ensures { λ r. ⌜ r ≡ kindNumber kind ⌝ }
+{
     match kind {
         Kind::Absent => 0,
         Kind::GhostBottom => 1,

@@ -1,5 +1,6 @@
 -- `captures::captures_agree` is safe and ends. The loop's invariant: `i` is at most the count of stems. The measure is what is left of the count. Assumes nothing.
 use Prim.Native.Nat.{_≤_, _-_}
+use borrow.Author.Count.{falls}
 use borrow.Author.Needs.{needs}
 use Rattle.figures.proofs.captures.captures_agree.Statement.{statement}
 use Rattle.figures.proofs.captures.captures_agree.Tie as tie
@@ -53,7 +54,7 @@ add-i : tie.Need-add-i Inv-loop μ-loop
 add-i c = search needs
 
 loop-less : tie.Need-loop-less Inv-loop μ-loop
-loop-less c = search needs
+loop-less c = falls _ _ (c .before .before .loop-test .taken)
 
 loop-again : tie.Need-loop-again Inv-loop μ-loop
 loop-again c = search needs
