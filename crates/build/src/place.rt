@@ -8,6 +8,7 @@ use stems::StemHint;
 use zones::Captured;
 use zones::HintState;
 ghost use mathlib.Core.Path.{_≡_};
+ghost use Prim.Native.Nat.{min};
 ghost use Rattle.build.specs.Place.{declaredIn, readyOf, lockedTurns, freeTurns};
 
 // The stems that are declared.
@@ -20,6 +21,13 @@ pub struct Stems {
 pub struct Placed {
     pub map: HintMap,
     pub rest: HintMask,
+}
+
+// How many of the stems count.
+fn declared(count: usize) -> usize
+    ensures { λ r. ⌜ r ≡ min count 96 ⌝ }
+{
+    least(count, 96)
 }
 
 // From `build`: a stem's edges, and whether they are locked or captured.
@@ -57,7 +65,7 @@ pub(crate) fn place_locked(
 {
     let mut map = p.map;
     let mut rest = p.rest;
-    let count = least(stems.count, 96);
+    let count = declared(stems.count);
     for i in 0..count {
         if !rest.get(i) {
             continue;
@@ -81,7 +89,7 @@ pub(crate) fn place_free(p: Placed, state: HintState, stems: Stems, initial: Hin
 {
     let mut map = p.map;
     let rest = p.rest;
-    let count = least(stems.count, 96);
+    let count = declared(stems.count);
     for i in 0..count {
         if !rest.get(i) {
             continue;

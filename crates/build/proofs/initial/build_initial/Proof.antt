@@ -45,7 +45,7 @@ returns : tie.Need-returns
 unfolding initialOf
 returns c =
     let b = c .before .before in
-    rw (c .before .adjust .ensures, b .with-baseline .ensures, placed (b .before .before)) at (c .validate .ensures)
+    simp (c .before .adjust .ensures, b .with-baseline .ensures, placed (b .before .before)) at (c .validate .ensures)
 
 pub build-initial-spec : {M : Type 1} → statement M
 build-initial-spec =

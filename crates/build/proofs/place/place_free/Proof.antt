@@ -24,22 +24,22 @@ abbrev μ-loop : tie.MeasureT-loop
 μ-loop state initial stems map₀ rest count i₀ map i = count - i
 
 -- each stem that is declared has its place
-module _ (c : tie.After-least Inv-loop μ-loop) where
+module _ (c : tie.After-declared Inv-loop μ-loop) where
   abbrev begin : tie.Start Inv-loop μ-loop
   begin = c .before .before .before
 
   room : length (begin .args .t3 .list) ≡ 96
   room = simp length-map at (begin .good .1 .1 .0 .1 .1 .0 .1 .0 .1)
 
-  few : c .least .result ≤ length (begin .args .t3 .list)
-  few = omega (arith, room, c .least .ensures)
+  few : c .declared .result ≤ length (begin .args .t3 .list)
+  few = omega (arith, room, c .declared .ensures)
 
-  all : take (c .least .result) (begin .args .t3 .list) ≡ declaredIn (begin .args .t3)
-  all = ap (λ (n : ℕ). take n (begin .args .t3 .list)) (c .least .ensures) ∙ take-least (begin .args .t3 .count) 96 (begin .args .t3 .list) room
+  all : take (c .declared .result) (begin .args .t3 .list) ≡ declaredIn (begin .args .t3)
+  all = ap (λ (n : ℕ). take n (begin .args .t3 .list)) (c .declared .ensures) ∙ take-least (begin .args .t3 .count) 96 (begin .args .t3 .list) room
 
 -- ---- the stem whose turn it is
 module _ (c : tie.In-loop Inv-loop μ-loop) where
-  abbrev cut : tie.After-least Inv-loop μ-loop
+  abbrev cut : tie.After-declared Inv-loop μ-loop
   cut = c .before .before
 
   abbrev start : tie.Start Inv-loop μ-loop
@@ -49,15 +49,15 @@ module _ (c : tie.In-loop Inv-loop μ-loop) where
   soFar = record { map = c .before .loop .map; rest = start .args .p .rest }
 
   inside : c .before .loop .i < 96
-  inside = omega (arith, cut .least .ensures)
+  inside = omega (arith, cut .declared .ensures)
 
   -- whatever its turn leaves, the turns after it are left
   again : (q : Placed) → freeTurn (start .args .state) (start .args .initial) soFar (c .before .loop .i) (getD (start .args .t3 .list) (c .before .loop .i) noStem) ≡ q →
-      Left (freeTurns (start .args .state) (start .args .initial)) (start .args .t3) (cut .least .result) (start .args .p) q (c .before .loop .i + 1)
-  again q = left-more (free-round (start .args .state) (start .args .initial)) (start .args .t3) (cut .least .result) (few cut) _ soFar q (c .before .loop .i) noStem (omega arith) (c .before .loop .inv)
+      Left (freeTurns (start .args .state) (start .args .initial)) (start .args .t3) (cut .declared .result) (start .args .p) q (c .before .loop .i + 1)
+  again q = left-more (free-round (start .args .state) (start .args .initial)) (start .args .t3) (cut .declared .result) (few cut) _ soFar q (c .before .loop .i) noStem (omega arith) (c .before .loop .inv)
 
-least-requires : tie.Need-least-requires Inv-loop μ-loop
-least-requires c κs = search needs
+declared-requires : tie.Need-declared-requires Inv-loop μ-loop
+declared-requires c κs = search needs
 
 loop-holds : tie.Need-loop-holds Inv-loop μ-loop
 loop-holds c = (ap (λ (l : List StemHint). freeTurns (begin c .args .state) (begin c .args .initial) 0 l (begin c .args .p)) (all c), search needs)
@@ -113,14 +113,14 @@ loop-again-2 c =
     let s = c .before .before in
     let e = s .before .before .before in
     let g = e .before in
-    again (g .before) _ (rw (sym (g .get .ensures), not-false (g .get .result) (e .if1 .left), sym (s .before .setup .ensures), sym (s .setup2 .ensures), sym (c .before .choose .ensures), sym (c .insert .ensures)))
+    again (g .before) _ (simp (sym (g .get .ensures), not-false (g .get .result) (e .if1 .left), sym (s .before .setup .ensures), sym (s .setup2 .ensures), sym (c .before .choose .ensures), sym (c .insert .ensures)))
 
 returns : tie.Need-returns Inv-loop μ-loop
 returns c =
     let at = c .before in
     let k = at .before in
     let s = begin k in
-    left-ends (free-round (s .args .state) (s .args .initial)) (s .args .t3) (k .least .result) (few k) (s .args .p) _ (at .loop .i) (search needs) (at .loop .inv)
+    left-ends (free-round (s .args .state) (s .args .initial)) (s .args .t3) (k .declared .result) (few k) (s .args .p) _ (at .loop .i) (search needs) (at .loop .inv)
 
 pub place-free-spec : {M : Type 1} → statement M
 place-free-spec =
@@ -128,7 +128,7 @@ place-free-spec =
     (tie.spec
     Inv-loop
     μ-loop
-    least-requires
+    declared-requires
     loop-holds
     get-requires
     add-i

@@ -24,22 +24,22 @@ abbrev μ-loop : tie.MeasureT-loop
 μ-loop state initial given stems map₀ rest₀ count i₀ map rest i = count - i
 
 -- each stem that is declared has its place
-module _ (c : tie.After-least Inv-loop μ-loop) where
+module _ (c : tie.After-declared Inv-loop μ-loop) where
   abbrev begin : tie.Start Inv-loop μ-loop
   begin = c .before .before .before
 
   room : length (begin .args .t3 .list) ≡ 96
   room = simp length-map at (begin .good .1 .1 .0 .1 .1 .0 .1 .0 .1)
 
-  few : c .least .result ≤ length (begin .args .t3 .list)
-  few = omega (arith, room, c .least .ensures)
+  few : c .declared .result ≤ length (begin .args .t3 .list)
+  few = omega (arith, room, c .declared .ensures)
 
-  all : take (c .least .result) (begin .args .t3 .list) ≡ declaredIn (begin .args .t3)
-  all = ap (λ (n : ℕ). take n (begin .args .t3 .list)) (c .least .ensures) ∙ take-least (begin .args .t3 .count) 96 (begin .args .t3 .list) room
+  all : take (c .declared .result) (begin .args .t3 .list) ≡ declaredIn (begin .args .t3)
+  all = ap (λ (n : ℕ). take n (begin .args .t3 .list)) (c .declared .ensures) ∙ take-least (begin .args .t3 .count) 96 (begin .args .t3 .list) room
 
 -- ---- the stem whose turn it is
 module _ (c : tie.In-loop Inv-loop μ-loop) where
-  abbrev cut : tie.After-least Inv-loop μ-loop
+  abbrev cut : tie.After-declared Inv-loop μ-loop
   cut = c .before .before
 
   abbrev start : tie.Start Inv-loop μ-loop
@@ -49,15 +49,15 @@ module _ (c : tie.In-loop Inv-loop μ-loop) where
   soFar = record { map = c .before .loop .map; rest = c .before .loop .rest }
 
   inside : c .before .loop .i < 96
-  inside = omega (arith, cut .least .ensures)
+  inside = omega (arith, cut .declared .ensures)
 
   -- whatever its turn leaves, the turns after it are left
   again : (q : Placed) → lockedTurn (start .args .state) (start .args .initial) (start .args .given) soFar (c .before .loop .i) (getD (start .args .t3 .list) (c .before .loop .i) noStem) ≡ q →
-      Left (lockedTurns (start .args .state) (start .args .initial) (start .args .given)) (start .args .t3) (cut .least .result) (start .args .p) q (c .before .loop .i + 1)
-  again q = left-more (locked-round (start .args .state) (start .args .initial) (start .args .given)) (start .args .t3) (cut .least .result) (few cut) _ soFar q (c .before .loop .i) noStem (omega arith) (c .before .loop .inv)
+      Left (lockedTurns (start .args .state) (start .args .initial) (start .args .given)) (start .args .t3) (cut .declared .result) (start .args .p) q (c .before .loop .i + 1)
+  again q = left-more (locked-round (start .args .state) (start .args .initial) (start .args .given)) (start .args .t3) (cut .declared .result) (few cut) _ soFar q (c .before .loop .i) noStem (omega arith) (c .before .loop .inv)
 
-least-requires : tie.Need-least-requires Inv-loop μ-loop
-least-requires c κs = search needs
+declared-requires : tie.Need-declared-requires Inv-loop μ-loop
+declared-requires c κs = search needs
 
 loop-holds : tie.Need-loop-holds Inv-loop μ-loop
 loop-holds c = (ap (λ (l : List StemHint). lockedTurns (begin c .args .state) (begin c .args .initial) (begin c .args .given) 0 l (begin c .args .p)) (all c), search needs)
@@ -101,7 +101,7 @@ loop-again-2 c =
     let r = c .before .before in
     let e = r .before .before in
     let g = e .before in
-    again (g .before) _ (rw (sym (g .get .ensures), not-false (g .get .result) (e .if1 .left), sym (r .ready .ensures), not-true (r .ready .result .captured) (c .if2 .taken)))
+    again (g .before) _ (simp (sym (g .get .ensures), not-false (g .get .result) (e .if1 .left), sym (r .ready .ensures), not-true (r .ready .result .captured) (c .if2 .taken)))
 
 choose-requires : tie.Need-choose-requires Inv-loop μ-loop
 choose-requires c κs = search needs
@@ -126,14 +126,14 @@ loop-again-3 c =
     let r = f .before .before in
     let e = r .before .before in
     let g = e .before in
-    again (g .before) _ (rw (sym (g .get .ensures), not-false (g .get .result) (e .if1 .left), sym (r .ready .ensures), not-false (r .ready .result .captured) (f .if2 .left), sym (o .choose .ensures), sym (c .before .insert .ensures), sym (c .clear .ensures)))
+    again (g .before) _ (simp (sym (g .get .ensures), not-false (g .get .result) (e .if1 .left), sym (r .ready .ensures), not-false (r .ready .result .captured) (f .if2 .left), sym (o .choose .ensures), sym (c .before .insert .ensures), sym (c .clear .ensures)))
 
 returns : tie.Need-returns Inv-loop μ-loop
 returns c =
     let at = c .before in
     let k = at .before in
     let s = begin k in
-    left-ends (locked-round (s .args .state) (s .args .initial) (s .args .given)) (s .args .t3) (k .least .result) (few k) (s .args .p) _ (at .loop .i) (search needs) (at .loop .inv)
+    left-ends (locked-round (s .args .state) (s .args .initial) (s .args .given)) (s .args .t3) (k .declared .result) (few k) (s .args .p) _ (at .loop .i) (search needs) (at .loop .inv)
 
 pub place-locked-spec : {M : Type 1} → statement M
 place-locked-spec =
@@ -141,7 +141,7 @@ place-locked-spec =
     (tie.spec
     Inv-loop
     μ-loop
-    least-requires
+    declared-requires
     loop-holds
     get-requires
     add-i

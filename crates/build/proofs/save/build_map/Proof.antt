@@ -44,7 +44,7 @@ returns : tie.Need-returns
 unfolding builtOf
 returns c =
     let a = c .before .before in
-    rw (c .save-all .ensures, c .before .validate .ensures, a .adjust .ensures, placed (a .before .before))
+    simp (c .save-all .ensures, c .before .validate .ensures, a .adjust .ensures, placed (a .before .before))
 
 pub build-map-spec : {M : Type 1} → statement M
 build-map-spec =
