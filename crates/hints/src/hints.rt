@@ -108,11 +108,11 @@ impl Hints {
         let based = self.with_initial(state);
         let stems = based.stems;
         let initial = based.initial;
-        let built = build_map(state, mask, stems, initial);
-        let after = built.stems;
-        let mut hints = based;
-        hints.stems = after;
-        hints
+        let thrown = build_map(state, mask, stems, initial);
+        let heights = thrown.stems;
+        let mut kept = based;
+        kept.stems = heights;
+        kept
     }
 
     // From `hint`: the map is built from the present mask, where it is not valid.

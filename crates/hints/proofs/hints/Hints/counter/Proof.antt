@@ -12,7 +12,7 @@ build-map-requires c κs = search needs
 
 returns : tie.Need-returns
 unfolding countered
-returns c = rw (c .before .build-map .ensures, c .before .before .before .before .with-initial .ensures)
+returns c = simp (c .before .build-map .ensures, c .before .before .before .before .with-initial .ensures)
 
 pub counter-spec : {M : Type 1} → statement M
 counter-spec = tie.close (tie.spec with-initial-requires build-map-requires returns)

@@ -19,7 +19,7 @@ returns-2 : tie.Need-returns-2
 unfolding withMask
 returns-2 c =
     let e = c .before .before in
-    rw (c .invalidate .ensures, sym (e .before .same .ensures), e .if1 .left)
+    simp (c .invalidate .ensures, sym (e .before .same .ensures), e .if1 .left)
 
 pub with-mask-spec : {M : Type 1} → statement M
 with-mask-spec = tie.close (tie.spec same-requires returns invalidate-requires returns-2)
