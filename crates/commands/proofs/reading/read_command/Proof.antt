@@ -27,7 +27,7 @@ returns c =
     let a = c .before .before .before .before .args in
     let e = c .before .operands .ensures .0 ∙ ap operandsOf (c .before .before .natural .ensures .0) in
     let t : a .n < nextAt (rawAt (a .part .now)) (a .at) = omega (arith, e) in
-    rw (e, lt-ltb _ _ t)
+    simp (e, lt-ltb _ _ t)
 
 command-of-requires : tie.Need-command-of-requires
 command-of-requires c κs = search needs
