@@ -72,7 +72,7 @@ returns-3 c =
     let e = c .before .before .before .before in
     let h = e .before .before .before in
     let s = h .before .before .before .before .args .script .now in
-    rw (c .before .before .before .natural .ensures .0, c .before .before .natural2 .ensures .0, c .before .natural3 .ensures .0) at (says-is (c .check-commands .ensures)) ∙
+    simp (c .before .before .before .natural .ensures .0, c .before .before .natural2 .ensures .0, c .before .natural3 .ensures .0) at (says-is (c .check-commands .ensures)) ∙
     sym (onward Ok (headerRows s) (paramRows (rawAt s) ++ commandRows (rawAt s 7) (commandsIn s)) (header-refusing s) (header-ok h) ∙ onward Ok (paramRows (rawAt s)) (commandRows (rawAt s 7) (commandsIn s)) (params-refusing s) (params-ok e))
 
 pub check-spec : {M : Type 1} → statement M

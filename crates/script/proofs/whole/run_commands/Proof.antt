@@ -56,7 +56,7 @@ returns c =
     let z = r .before .before in
     let n = z .before .before in
     let s = n .before .before .before .before in
-    rw (sym (ran (s .args .script .now) (s .args .out .now))) (rw (z .zones-of .ensures, n .before .before .natural .ensures .0, n .before .natural2 .ensures .0, n .natural3 .ensures .0, lent (s .args .script .now) (4 * rawAt (s .args .script .now) 4)) at (r .run .ensures))
+    rw (sym (ran (s .args .script .now) (s .args .out .now))) (simp (z .zones-of .ensures, n .before .before .natural .ensures .0, n .before .natural2 .ensures .0, n .natural3 .ensures .0, lent (s .args .script .now) (4 * rawAt (s .args .script .now) 4)) at (r .run .ensures))
 
 pub run-commands-spec : {M : Type 1} → statement M
 run-commands-spec =

@@ -1,5 +1,5 @@
 -- `run_script` answers a script and leaves the output as its definition says, whichever way it ends. Assumes nothing.
-use mathlib.Core.Path.{_≡_, sym, ap, _∙_}
+use mathlib.Core.Path.{_≡_, sym, ap, subst, _∙_}
 use mathlib.Core.Bool.{false}
 use mathlib.Core.List.{List, [], _∷_, _++_}
 use Prim.Native.Nat.{ℕ, _-_, _≤_}
@@ -12,12 +12,13 @@ use Rattle.run.specs.Count.{recordsIn}
 use Rattle.run.specs.Room.{Fitted}
 use Rattle.run.specs.Run.{outcomeOf, Ended}
 use Rattle.run.proofs.Counting.{few-records}
+use Rattle.words.specs.declared.answer.Answer.{Answer}
 use Rattle.words.specs.declared.answer.Answer.the-variants.{Ok}
 use Rattle.words.specs.Answers.{firstOf, numberOf, refuses}
 use Rattle.words.proofs.Answers.{not-refused, says, says-is}
 use Rattle.run.proofs.Filling.{back}
 use Rattle.commands.proofs.Laws.{lent}
-use Rattle.script.specs.Script.{checkRows, stepsIn}
+use Rattle.script.specs.Script.{checkRows, stepsIn, scriptOf, Scripted}
 use Rattle.script.proofs.Passed.{passed}
 use Rattle.script.proofs.Results.{refused, taken, by-fault, by-size, ran, by-room, by-run, header-before, behind, short}
 use borrow.Author.Needs.{needs}
@@ -87,7 +88,8 @@ returns c =
     let k = c .before .before in
     let s = k .before .before .args in
     let n = ap numberOf (k .check .ensures) in
-    rw (k .check .ensures) (by-fault (s .script .now) (s .out .now) (refused (firstOf (checkRows (s .script .now))) (omega (arith, n, c .before .code .ensures, c .if1 .taken))))
+    subst (λ (a : Answer). Scripted (scriptOf (s .script .now) (s .out .now)) a (s .out .now)) (sym (k .check .ensures))
+    (by-fault (s .script .now) (s .out .now) (refused (firstOf (checkRows (s .script .now))) (omega (arith, n, c .before .code .ensures, c .if1 .taken))))
 
 natural-requires : tie.Need-natural-requires
 natural-requires c κs = omega (arith, passed _ (all-ok (c .before)) .fine .enough)
