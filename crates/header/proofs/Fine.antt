@@ -18,7 +18,7 @@ use Rattle.words.specs.Words.{rawAt, negative, numberAt}
 use Rattle.words.specs.Answers.{firstOf}
 use Rattle.words.proofs.Rows.{Refusing, none-holds}
 use Rattle.header.specs.Header.{differs, padded, headerRows}
-use Rattle.header.specs.Params.{pairsIn, paramRows, bluesAt, paramsOf, Whole}
+use Rattle.header.specs.Params.{pairsIn, paramRows, Whole}
 use Rattle.header.proofs.Tests.{refusing, both-false, alike, long}
 
 -- what a script with a fine header has

@@ -1,6 +1,6 @@
 -- The record words of one call (01, "Path records").
 use mathlib.Core.Path.{_≡_}
-use mathlib.Core.Bool.{Bool, true, false, cond}
+use mathlib.Core.Bool.{Bool, cond}
 use mathlib.Core.List.{List, _++_}
 use Prim.Native.Nat.{_+_, _-_}
 use lib.Dec.{leb}

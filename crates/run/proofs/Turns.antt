@@ -29,7 +29,7 @@ use Rattle.commands.specs.declared.reading.Command.the-variants.{Mark, Draw}
 use Rattle.commands.specs.Commands.{Placed, readAt, nextAt, commandsFrom, commandsOf}
 use Rattle.commands.specs.Faults.{hasBadMask, commandRows}
 use Rattle.commands.proofs.Laws.{first as first-command, none, from-start, faultless, mask-inside}
-use Rattle.run.specs.Room.{Step, fitted}
+use Rattle.run.specs.Room.{Step}
 use Rattle.run.specs.Run.{markCall, callOf, Asked, callsOf, stepsOf, maskEnd, ranOf, Ended, Runnable, wantsMap, isClose}
 use Rattle.run.proofs.Filling.{begun, following, Stopped}
 use Rattle.run.proofs.Calls.{Standing, standing, marked, readied, drew, denied, finished}

@@ -1,6 +1,6 @@
 -- Demand 3: of every drawing that there can be, and of every drawing that a script's run goes through. Assumes nothing.
 use mathlib.Core.Path.{_≡_, refl, sym, ap, subst, _∙_}
-use mathlib.Core.Bool.{Bool, true, false}
+use mathlib.Core.Bool.{true, false}
 use mathlib.Core.List.{List, [], _∷_, _++_}
 use Prim.Native.Nat.{ℕ}
 use native.Mathlib.Omega.{arith}
@@ -11,7 +11,6 @@ use borrow.Author.Tests.{le-leb}
 use Rattle.fixed.specs.Fixed.{fromBits, lessF}
 use Rattle.zones.specs.declared.state.HintState.{HintState}
 use Rattle.build.proofs.Sound.{built-good}
-use Rattle.pen.specs.Records.{fits}
 use Rattle.hints.specs.Hints.{withInitial, readyOf}
 use Rattle.drawing.specs.declared.calls.Drawing.{Drawing}
 use Rattle.drawing.specs.declared.calls.After.{After}
@@ -28,7 +27,7 @@ use Rattle.run.specs.Room.{Step}
 use Rattle.run.specs.Run.{Asked, stepsOf}
 use Rattle.script.specs.Script.{zonesOf, callsIn, stepsIn}
 use Rattle.script.proofs.Passed.{passed}
-use Rattle.table.specs.Reached.{Reached, opened, called, Since, here, next, Earlier, afterRoom, counterMap, Demand3}
+use Rattle.table.specs.Reached.{Reached, opened, called, here, next, Earlier, afterRoom, counterMap, Demand3}
 use Rattle.table.specs.Demand1.{Checked}
 use Rattle.table.specs.Demand3.{drawingAfter, Along, drawingIn, OnTheWay}
 use Rattle.table.proofs.Sound.{sound, Fine, fine, fine-ready, opened-new}

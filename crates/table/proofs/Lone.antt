@@ -1,5 +1,5 @@
 -- How lone calls and opening end, over the outcome that their contracts give. Assumes nothing.
-use mathlib.Core.Path.{_≡_, refl, ap, _∙_}
+use mathlib.Core.Path.{_≡_, refl}
 use mathlib.Core.Bool.{Bool, true, false, cond}
 use mathlib.Core.List.{List}
 use lib.IntN.{ℤ, pos}
@@ -16,8 +16,8 @@ use Rattle.drawing.specs.declared.calls.Drawing.{Drawing}
 use Rattle.drawing.specs.declared.calls.After.{After}
 use Rattle.drawing.specs.declared.opening.Opened.{Opened}
 use Rattle.drawing.specs.Calls.{Call, wordsFor, roomBy, Called}
-use Rattle.drawing.specs.Open.{countsFit, openNumber, openBy, openOf, Opens}
-use Rattle.table.specs.Lone.{Done, Refused, CallEnds, done, refused, OpenEnds, badScale, badBlues, accepted}
+use Rattle.drawing.specs.Open.{countsFit, openBy, openOf, Opens}
+use Rattle.table.specs.Lone.{CallEnds, done, refused, OpenEnds, badScale, badBlues, accepted}
 
 -- every outcome of a lone call ends in one of the two ways
 pub call-ends : {st : HintState} {d : Drawing} {c : Call} {out : List ℤ} {said : After} {left : List ℤ} → Called st d c out said left → CallEnds st d c out said left

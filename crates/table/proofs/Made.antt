@@ -7,7 +7,6 @@ use Rattle.stems.specs.declared.mask.HintMask.{HintMask}
 use Rattle.stems.specs.Mask.{sameMask}
 use Rattle.zones.specs.declared.state.HintState.{HintState}
 use Rattle.hintmap.specs.declared.map.HintMap.{HintMap}
-use Rattle.build.specs.Build.{initialOf}
 use Rattle.build.proofs.Sound.{initial-valid}
 use Rattle.pen.specs.declared.strokes.Point.{Point}
 use Rattle.pen.specs.declared.strokes.Pen.{Pen}
@@ -21,7 +20,7 @@ use Rattle.hints.specs.declared.path.Path.the-variants.{Move, Line, Curve, Fini
 use Rattle.hints.specs.Hints.{stemBy, withStem, maskBy, withMask, initialBy, withInitial, countered, readyBy, readyOf, devicePoint}
 use Rattle.hints.specs.Path.{hasPoint}
 use Rattle.drawing.specs.declared.calls.Drawing.{Drawing}
-use Rattle.drawing.specs.Calls.{Call, stem, hintMask, counterMask, clear, close, draw, readyFor, hintsOf, strokeOf, nextOf, roomBy}
+use Rattle.drawing.specs.Calls.{Call, stem, hintMask, counterMask, clear, close, draw, readyFor, strokeOf, nextOf, roomBy}
 use Rattle.drawing.specs.Open.{newDrawing}
 use Rattle.table.specs.Reached.{InitialMade, MapMade, carriedPoint, Pointed, LineMade}
 

@@ -1,6 +1,6 @@
 -- The two moves of a hint are the smallest up and down that put either edge on a whole pixel: on the low 16 bits of the heights, which sums carry along. Assumes nothing.
 use mathlib.Core.Path.{_≡_, refl, sym, ap, _∙_}
-use mathlib.Core.Bool.{Bool, true, false, cond, _&&_}
+use mathlib.Core.Bool.{Bool, true, false, cond}
 use Prim.Native.Nat.{ℕ, zero, suc, min, _+_, _-_, _*_, _/_, _%_, _^_, _≤_, _<_}
 use native.Mathlib.Nat.{mod-lt, mod-eq-of-lt, mul-add-mod-self-right}
 use native.Mathlib.Omega.{arith}
@@ -12,7 +12,7 @@ use mir.Syntax.{w32}
 use mir.Val.{SFits, toZ}
 use Rattle.fixed.specs.declared.Fixed.{Fixed}
 use Rattle.fixed.specs.Whole.{lowBits, signed, wrap32}
-use Rattle.fixed.specs.Fixed.{fromBits, ZERO, ONE, addF, subF, fractF, minF, maxF, sameF, atMostF}
+use Rattle.fixed.specs.Fixed.{fromBits, ZERO, addF, subF, fractF, minF, maxF, sameF, atMostF}
 use Rattle.fixed.proofs.Ints.{ints, up, dn, one, of-add, of-sub, up-neg, dn-neg}
 use Rattle.fixed.proofs.Bits.{low-lt, of-toZ, wrap-id}
 use Rattle.fixed.proofs.Order.{heights, same-is, not-same}

@@ -1,7 +1,7 @@
 -- A map in order, with its stems whole, is sound; and every drawing that there can be has such maps, of its own scale. Assumes nothing.
 use mathlib.Core.Path.{_≡_, refl, sym, ap, subst, _∙_}
 use mathlib.Core.Bool.{Bool, true, false, _&&_, not}
-use Prim.Native.Nat.{ℕ, zero, suc, _+_, _≤_, _<_}
+use Prim.Native.Nat.{ℕ, zero, suc, _+_, _<_}
 use native.Mathlib.Omega.{arith}
 use lib.Dec.{ltb, leb}
 use lib.IntN.{pos}
@@ -20,7 +20,7 @@ use Rattle.zones.specs.declared.state.HintState.{HintState}
 use Rattle.zones.specs.State.{emBox, stateBy, stateOf}
 use Rattle.hintmap.specs.declared.map.HintMap.{HintMap}
 use Rattle.hintmap.specs.Map.{view}
-use Rattle.hintmap.specs.Stems.{Pair, Last, Above}
+use Rattle.hintmap.specs.Stems.{Pair, Above}
 use Rattle.hintmap.proofs.Stems.{Good, new-good, invalid-good}
 use Rattle.hintmap.proofs.Words.{stems-ascend, bottom-top, shared}
 use Rattle.hintmap.proofs.Mapping.{Mapped, mapped, Serves as ServesList, below, above, serves}
@@ -31,7 +31,7 @@ use Rattle.hints.specs.Path.{hasPoint}
 use Rattle.drawing.specs.declared.calls.Drawing.{Drawing}
 use Rattle.drawing.specs.Calls.{Call, stem, hintMask, counterMask, clear, close, draw, readyFor, hintsOf, roomBy, wordsFor}
 use Rattle.drawing.specs.Open.{newDrawing, countsFit, openBy, openOf}
-use Rattle.table.specs.Reached.{Reached, opened, called, edge, height, OneStem, LastBelow, Carrier, byEdge, byFirst, byScale, Serves, last, first, none, carriedBy, Carried, Sound}
+use Rattle.table.specs.Reached.{Reached, opened, called, edge, height, OneStem, LastBelow, Carrier, byEdge, byFirst, byScale, Serves, last, first, none, Carried, Sound}
 
 -- ---- one carrier serves a height, and no other
 module _ (m : HintMap) (h : Fixed) where

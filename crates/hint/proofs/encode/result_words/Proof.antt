@@ -1,8 +1,8 @@
 -- `result_words` counts the header and the record words that it names, no more than there are. Assumes nothing.
-use mathlib.Core.Path.{_≡_, sym, ap, _∙_}
+use mathlib.Core.Path.{sym, ap, _∙_}
 use Prim.Native.Nat.{ℕ, min, _+_}
 use native.Mathlib.Omega.{arith}
-use lib.IntN.{ℤ, pos}
+use lib.IntN.{pos}
 use lib.ListN.{length, getD, length-take}
 use mir.Syntax.{w32}
 use mir.Val.{SFits}

@@ -5,7 +5,7 @@ use mathlib.Core.List.{List, [], _∷_, _++_}
 use Prim.Native.Nat.{ℕ, _-_, _≤_}
 use native.Mathlib.Omega.{arith}
 use lib.IntN.{ℤ, pos}
-use lib.ListN.{length, take, drop, length-drop}
+use lib.ListN.{length, take, drop}
 use borrow.Rule.Slice.PartMut.{putMid, same-len-mid}
 use Rattle.pen.specs.Records.{written}
 use Rattle.run.specs.Count.{recordsIn}
@@ -18,7 +18,7 @@ use Rattle.words.specs.Answers.{firstOf, numberOf, refuses}
 use Rattle.words.proofs.Answers.{not-refused, says, says-is}
 use Rattle.run.proofs.Filling.{back}
 use Rattle.commands.proofs.Laws.{lent}
-use Rattle.script.specs.Script.{checkRows, stepsIn, scriptOf, Scripted}
+use Rattle.script.specs.Script.{checkRows, scriptOf, Scripted}
 use Rattle.script.proofs.Passed.{passed}
 use Rattle.script.proofs.Results.{refused, taken, by-fault, by-size, ran, by-room, by-run, header-before, behind, short}
 use borrow.Author.Needs.{needs}

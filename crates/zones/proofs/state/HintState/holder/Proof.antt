@@ -1,14 +1,12 @@
 -- `HintState::holder` meets its contract. The loop's invariant: the first zone from `i` on that holds is the first of all.
 -- The measure is what is left of the count, which is cut to the room for zones. Assumes nothing.
-use mathlib.Core.Path.{_≡_, refl, sym, ap, _∙_}
+use mathlib.Core.Path.{_≡_, sym, ap, _∙_}
 use mathlib.Core.Bool.{cond}
-use mathlib.Core.List.{List}
-use Prim.Native.Nat.{min, _+_, _-_, _≤_}
+use Prim.Native.Nat.{_+_, _-_, _≤_}
 use native.Mathlib.Omega.{arith}
 use borrow.Author.Needs.{needs}
-use lib.ListN.{length, take, getD, length-map}
+use lib.ListN.{length, getD, length-map}
 use Rattle.fixed.proofs.Counts.{take-least}
-use Rattle.zones.specs.declared.blues.BlueZone.{BlueZone}
 use Rattle.zones.specs.Zones.{noZone}
 use Rattle.zones.specs.declared.capture.Held.the-variants.{By}
 use Rattle.zones.specs.Capture.{firstHolding}
