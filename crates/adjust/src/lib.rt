@@ -2,6 +2,7 @@
 use fixed::Fixed;
 use hintmap::HintMap;
 use stems::Hint;
+use stems::MAX_HINTS;
 ghost use mathlib.Core.Path.{_≡_};
 ghost use Prim.Native.Nat.{_-_, _<_, _≤_};
 ghost use Rattle.stems.specs.Edge.{isPair};
@@ -42,8 +43,8 @@ pub struct Aligned {
 
 // The notes in the order in which they were made: a hint's upper edge, and its missing move.
 pub struct Notes {
-    pub at: [usize; 96],
-    pub by: [Fixed; 96],
+    pub at: [usize; MAX_HINTS],
+    pub by: [Fixed; MAX_HINTS],
     pub count: usize,
 }
 
@@ -69,7 +70,7 @@ fn smallest(low: Fixed, high: Fixed) -> Moves
     Moves { up, down }
 }
 
-// From `adjust`: whether there is room for an upper edge to move up.
+// From `adjust`: whether there is room for an upper edge to move up. A counter keeps half a pixel at least.
 fn room_up(above: Neighbour, high: Fixed, by: Fixed) -> bool
     ensures { λ r. ⌜ r ≡ roomUp above high by ⌝ }
 {
@@ -242,7 +243,8 @@ fn lower(edge: Hint, j: usize) -> usize
     j
 }
 
-// From `adjust`: the second pass, newest note first. Every note is of an edge of the map. Scales stay.
+// From `adjust`: the second pass, newest note first, lifts hints for which the moves above them have made room. Every note is of an
+// edge of the map. Scales stay.
 fn second_pass(map: HintMap, notes: Notes) -> HintMap
     requires { ⌜ (map .len ≤ 96) × (notes .count ≤ 96) ⌝ }
     ensures { λ r. ⌜ r ≡ secondPass (notes .count) notes map ⌝ }
@@ -271,15 +273,15 @@ fn second_pass(map: HintMap, notes: Notes) -> HintMap
     after
 }
 
-// Ports `adjust`. The first pass goes upward over the hints.
+// Ports `adjust`. The first pass goes upward over the hints and does not look ahead: what it leaves short is noted for the second.
 pub fn adjust(map: HintMap) -> HintMap
     requires { ⌜ map .len ≤ 96 ⌝ }
     ensures { λ r. ⌜ r ≡ adjustOf map ⌝ }
 {
     let zero = Fixed::ZERO;
     let mut notes = Notes {
-        at: [0; 96],
-        by: [zero; 96],
+        at: [0; MAX_HINTS],
+        by: [zero; MAX_HINTS],
         count: 0,
     };
     let len = map.len;

@@ -22,19 +22,19 @@ use Rattle.hintmap.specs.declared.map.HintMap.{HintMap}
 use Rattle.hintmap.specs.declared.insert.Edges.{Edges}
 use Rattle.hintmap.specs.declared.insert.Edges.the-variants.{One, Two}
 use Rattle.hintmap.specs.Map.{newMap, view}
-use Rattle.hintmap.specs.Insert.{chosenBy, chosen, firstOf, edgesOf, again, placedBy, putEdges, placeFor, placedFor, insertIn}
-use Rattle.hintmap.specs.Stems.{Made}
+use Rattle.hintmap.specs.Insert.{chosenBy, chosen, firstEdge, edgesOf, again, placedBy, putEdges, placeFor, placedFor, insertIn}
+use Rattle.hintmap.specs.WholeStems.{Made}
 use Rattle.hintmap.proofs.Outcome.{Clear, by-outcome, view-placed}
-use Rattle.hintmap.proofs.Stems.{Good, new-good, insert-good}
+use Rattle.hintmap.proofs.WholeStems.{Good, new-good, insert-good}
 use Rattle.hintmap.proofs.Made.{made-setup}
 use Rattle.adjust.specs.Second.{adjustOf}
 use Rattle.adjust.proofs.Keeps.{still, adjust-kept}
 use Rattle.build.specs.declared.place.Placed.{Placed}
-use Rattle.build.specs.declared.place.Stems.{Stems}
+use Rattle.stems.specs.declared.edge.Stems.{Stems}
 use Rattle.build.specs.Ghosts.{emBottom, emTop, emBoxed}
 use Rattle.build.specs.Place.{declaredIn, lockedTurn, freeTurn}
 use Rattle.build.specs.Build.{boxedMap, lockedPlaced, placedOf, builtOf}
-use Rattle.build.proofs.Steps.{boxed-keeps, ready-like, made-ready, made-box-bottom, locked-cases, free-cases}
+use Rattle.build.proofs.Steps.{boxed-keeps, prepared-like, made-prepared, made-box-bottom, locked-cases, free-cases}
 use Rattle.build.proofs.Rounds.{locked-round, free-round, round-keeps}
 use Rattle.build.proofs.Saved.{ownedBy, own-true, own-of, Bears}
 
@@ -125,7 +125,7 @@ module _ (top : Bool) (k : ℕ) where
       put : Clear m e initial given → tally top k (view (putEdges m at p)) ≤ tally top k (view m) + tally top k (edgesOf e)
       put c =
           let cut : tally top k (view m) ≡ tally top k (take at (view m)) + tally top k (drop at (view m)) = ap (tally top k) (sym (take-append-drop at (view m))) ∙ tally-append (take at (view m)) (drop at (view m)) in
-          let same : tally top k (edgesOf p) ≡ tally top k (edgesOf e) = tally-again (not (firstOf e .locked) && given) (view initial) (initial .scale) (m .scale) e in
+          let same : tally top k (edgesOf p) ≡ tally top k (edgesOf e) = tally-again (not (firstEdge e .locked) && given) (view initial) (initial .scale) (m .scale) e in
           rw (view-placed m e initial given (g .long) (c .entry), tally-append (take at (view m)) (edgesOf p ++ drop at (view m)), tally-append (edgesOf p) (drop at (view m))) (omega arith)
 
   -- one stem has at most one edge of a side
@@ -219,8 +219,8 @@ locked-places st initial given i x p has =
     (places-fewer (Waits i (p .rest)) (Waits (suc i) (p .rest)) (p .map) has (λ k. ⊎-elim (λ h. inl (omega arith)) inr))
     st given
     (λ e. places-more (Waits i (p .rest)) (Waits (suc i) (cleared (p .rest) i)) (p .map) has i _ _
-    (sym (ready-like st x i .0 .index) ∙ setup-index x i (st .scale) true) (sym (ready-like st x i .1 .index) ∙ setup-index x i (st .scale) false)
-    (made-ready st x i) (inl (le-refl i))
+    (sym (prepared-like st x i .0 .index) ∙ setup-index x i (st .scale) true) (sym (prepared-like st x i .1 .index) ∙ setup-index x i (st .scale) false)
+    (made-prepared st x i) (inl (le-refl i))
     (⊎-elim (λ h. omega arith) (λ a. true≢false (sym a ∙ clear-off (p .rest) i)))
     (λ k d. ⊎-elim (λ h. inl (omega arith)) (λ a. inr (sym (clear-keeps (p .rest) i k (λ w. d (sym w))) ∙ a)))
     initial given)

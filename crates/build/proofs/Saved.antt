@@ -15,7 +15,7 @@ use Rattle.fixed.specs.declared.Fixed.{Fixed}
 use Rattle.stems.specs.declared.edge.StemHint.{StemHint}
 use Rattle.stems.specs.declared.edge.Hint.{Hint}
 use Rattle.stems.specs.Edge.{noHint, isTop}
-use Rattle.build.specs.declared.place.Stems.{Stems}
+use Rattle.stems.specs.declared.edge.Stems.{Stems}
 use Rattle.build.specs.Build.{noStem, savedStem, savedBy, savedIn, savedAll}
 
 -- ---- the edges one by one

@@ -13,11 +13,11 @@ use Rattle.hintmap.specs.declared.insert.Edges.the-variants.{One, Two}
 use Rattle.hintmap.specs.Map.{newMap}
 use Rattle.hintmap.specs.Insert.{putEdges}
 use Rattle.hintmap.proofs.Outcome.{by-outcome}
-use Rattle.hintmap.proofs.Stems.{Good, new-good, valid-good, insert-good}
+use Rattle.hintmap.proofs.WholeStems.{Good, new-good, valid-good, insert-good}
 use Rattle.adjust.specs.Second.{adjustOf}
 use Rattle.adjust.proofs.Keeps.{adjust-kept, kept-length, adjust-stems}
 use Rattle.build.specs.declared.place.Placed.{Placed}
-use Rattle.build.specs.declared.place.Stems.{Stems}
+use Rattle.stems.specs.declared.edge.Stems.{Stems}
 use Rattle.build.specs.Ghosts.{baselined}
 use Rattle.build.specs.Place.{declaredIn, lockedTurns, freeTurns}
 use Rattle.build.specs.Build.{boxedMap, initialPlaced, placedOf, initialOf, builtOf}

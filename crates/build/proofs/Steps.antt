@@ -20,12 +20,12 @@ use Rattle.zones.proofs.Holding.{capture-keeps}
 use Rattle.hintmap.specs.declared.map.HintMap.{HintMap}
 use Rattle.hintmap.specs.declared.insert.Edges.{Edges}
 use Rattle.hintmap.specs.Insert.{chosen, insertIn}
-use Rattle.hintmap.specs.Stems.{Made, Like}
+use Rattle.hintmap.specs.WholeStems.{Made, Like}
 use Rattle.hintmap.proofs.Alike.{like-refl}
 use Rattle.hintmap.proofs.Made.{made-ghost, made-like, made-setup}
 use Rattle.build.specs.declared.place.Placed.{Placed}
 use Rattle.build.specs.Ghosts.{ghostAt, emBottom, emTop, emBoxed, uncovered, baselineBy, baselined}
-use Rattle.build.specs.Place.{readyBy, readyOf, putBy, lockedBy, lockedTurn, freeBy, freeTurn}
+use Rattle.build.specs.Place.{preparedBy, preparedOf, putBy, lockedBy, lockedTurn, freeBy, freeTurn}
 
 -- ---- what is put in
 like-lifted : (e : Hint) (by : Fixed) → Like e (lifted e by)
@@ -41,21 +41,21 @@ module _ (st : HintState) (x : StemHint) (i : ℕ) where
   Likes c = Like (own true) (c .bottom) × Like (own false) (c .top)
 
   -- locked or captured, a stem's edges differ on the device only
-  pub ready-like : Likes (readyOf st x i)
-  unfolding readyOf captureOf
-  ready-like = go (own true .locked || own false .locked) (held (firstHolding (st .«blue_fuzz») (own true) (own false) (take (st .«zone_count») (st .zones))))
+  pub prepared-like : Likes (preparedOf st x i)
+  unfolding preparedOf captureOf
+  prepared-like = go (own true .locked || own false .locked) (held (firstHolding (st .«blue_fuzz») (own true) (own false) (take (st .«zone_count») (st .zones))))
     where
       held : (h : Held) → Likes (capturedBy h st (own true) (own false))
       held Free = (like-refl _, like-refl _)
       held (By z) = (like-lifted _ _, like-lifted _ _)
 
-      go : (t : Bool) → Likes (captureOf st (own true) (own false)) → Likes (readyBy t st (own true) (own false))
+      go : (t : Bool) → Likes (captureOf st (own true) (own false)) → Likes (preparedBy t st (own true) (own false))
       go true l = (like-refl _, like-refl _)
       go false l = l
 
   -- so they are a single edge or one stem's two
-  pub made-ready : Made (chosen (readyOf st x i .bottom) (readyOf st x i .top))
-  made-ready = made-like x i (st .scale) _ _ (ready-like .0) (ready-like .1)
+  pub made-prepared : Made (chosen (preparedOf st x i .bottom) (preparedOf st x i .top))
+  made-prepared = made-like x i (st .scale) _ _ (prepared-like .0) (prepared-like .1)
 
 -- the em box's ghosts and the baseline's are single edges
 pub made-box-bottom : (s : Fixed) → Made (chosen (emBottom s) noHint)
@@ -74,17 +74,17 @@ made-baseline s = made-ghost (ghostAt GhostBottom ZERO ZERO s) (inl refl)
 module _ (initial : HintMap) (p : Placed) (i : ℕ) (x : StemHint) (P : Placed → Type 0) (same : P p) where
   -- the first round leaves all as it is, or puts in an active stem, which is then handled
   pub locked-cases : (st : HintState) (given : Bool) →
-      (isActive (p .rest) i ≡ true → P (record { map = insertIn (p .map) (chosen (readyOf st x i .bottom) (readyOf st x i .top)) initial given; rest = cleared (p .rest) i })) →
+      (isActive (p .rest) i ≡ true → P (record { map = insertIn (p .map) (chosen (preparedOf st x i .bottom) (preparedOf st x i .top)) initial given; rest = cleared (p .rest) i })) →
       P (lockedTurn st initial given p i x)
   unfolding lockedTurn
   locked-cases st given f = go (isActive (p .rest) i) refl
     where
-      put : isActive (p .rest) i ≡ true → (c : Bool) → P (putBy c initial given p i (readyOf st x i))
+      put : isActive (p .rest) i ≡ true → (c : Bool) → P (putBy c initial given p i (preparedOf st x i))
       put e true = f e
       put e false = same
 
       go : (a : Bool) → isActive (p .rest) i ≡ a → P (lockedBy a st initial given p i x)
-      go true e = put e (readyOf st x i .captured)
+      go true e = put e (preparedOf st x i .captured)
       go false e = same
 
   -- the second leaves all as it is, or puts in an active stem
@@ -121,7 +121,7 @@ module _ (P : HintMap → Type 0) (keep : Stable P) where
   -- so does a turn of either round
   pub locked-keeps : (st : HintState) (initial : HintMap) (given : Bool) (p : Placed) (i : ℕ) (x : StemHint) → P (p .map) → P (lockedTurn st initial given p i x .map)
   locked-keeps st initial given p i x h =
-      locked-cases initial p i x (λ (q : Placed). P (q .map)) h st given (λ e. keep (p .map) _ initial given (made-ready st x i) h)
+      locked-cases initial p i x (λ (q : Placed). P (q .map)) h st given (λ e. keep (p .map) _ initial given (made-prepared st x i) h)
 
   pub free-keeps : (st : HintState) (initial : HintMap) (p : Placed) (i : ℕ) (x : StemHint) → P (p .map) → P (freeTurn st initial p i x .map)
   free-keeps st initial p i x h =

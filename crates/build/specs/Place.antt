@@ -12,21 +12,21 @@ use Rattle.zones.specs.declared.capture.Captured.{Captured}
 use Rattle.zones.specs.Capture.{captureOf}
 use Rattle.hintmap.specs.declared.map.HintMap.{HintMap}
 use Rattle.hintmap.specs.Insert.{chosen, insertIn}
-use Rattle.build.specs.declared.place.Stems.{Stems}
+use Rattle.stems.specs.declared.edge.Stems.{Stems}
 use Rattle.build.specs.declared.place.Placed.{Placed}
 
 -- the stems that are declared
 abbrev pub declaredIn : Stems → List StemHint
 declaredIn ss = take (ss .count) (ss .list)
 
-abbrev pub readyBy : Bool → HintState → Hint → Hint → Captured
-readyBy true st b t = record { captured = true; bottom = b; top = t }
-readyBy false st b t = captureOf st b t
+abbrev pub preparedBy : Bool → HintState → Hint → Hint → Captured
+preparedBy true st b t = record { captured = true; bottom = b; top = t }
+preparedBy false st b t = captureOf st b t
 
 -- a stem's edges, and whether they are locked or captured
-unfoldable pub readyOf : HintState → StemHint → ℕ → Captured
-readyOf st stem i =
-    readyBy (setupOf stem i (st .scale) true .locked || setupOf stem i (st .scale) false .locked) st
+unfoldable pub preparedOf : HintState → StemHint → ℕ → Captured
+preparedOf st stem i =
+    preparedBy (setupOf stem i (st .scale) true .locked || setupOf stem i (st .scale) false .locked) st
     (setupOf stem i (st .scale) true) (setupOf stem i (st .scale) false)
 
 abbrev pub putBy : Bool → HintMap → Bool → Placed → ℕ → Captured → Placed
@@ -35,7 +35,7 @@ putBy true initial given p i e =
 putBy false initial given p i e = p
 
 abbrev pub lockedBy : Bool → HintState → HintMap → Bool → Placed → ℕ → StemHint → Placed
-lockedBy true st initial given p i stem = putBy (readyOf st stem i .captured) initial given p i (readyOf st stem i)
+lockedBy true st initial given p i stem = putBy (preparedOf st stem i .captured) initial given p i (preparedOf st stem i)
 lockedBy false st initial given p i stem = p
 
 -- an active stem that is locked or captured is put in, and is handled even if it is dropped

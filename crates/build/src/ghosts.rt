@@ -8,6 +8,11 @@ ghost use mathlib.Core.Path.{_≡_};
 ghost use Prim.Native.Nat.{_≤_};
 ghost use Rattle.build.specs.Ghosts.{ghostAt, emBottom, emTop, emBoxed, uncovered, baselined};
 
+// The ghosts of the em box lie one bit outside of it, so that a zone or a stem at its edge is none of them.
+const BOX_BOTTOM: Fixed = Fixed { bits: -0x78_0001 };
+
+const BOX_TOP: Fixed = Fixed { bits: 0x370_0001 };
+
 // A locked, synthetic edge.
 fn ghost_at(kind: Kind, height: Fixed, device: Fixed, scale: Fixed) -> Hint
     ensures { λ r. ⌜ r ≡ ghostAt kind height device scale ⌝ }
@@ -27,18 +32,16 @@ fn ghost_at(kind: Kind, height: Fixed, device: Fixed, scale: Fixed) -> Hint
 fn em_bottom(scale: Fixed) -> Hint
     ensures { λ r. ⌜ r ≡ emBottom scale ⌝ }
 {
-    let height = Fixed { bits: -0x78_0001 };
-    let device = height.mul(scale).round().sub(Fixed::HALF);
-    ghost_at(Kind::GhostBottom, height, device, scale)
+    let device = BOX_BOTTOM.mul(scale).round().sub(Fixed::HALF);
+    ghost_at(Kind::GhostBottom, BOX_BOTTOM, device, scale)
 }
 
 // From `build`: the em box's top, one bit over 880.0, half a pixel over its rounded height.
 fn em_top(scale: Fixed) -> Hint
     ensures { λ r. ⌜ r ≡ emTop scale ⌝ }
 {
-    let height = Fixed { bits: 0x370_0001 };
-    let device = height.mul(scale).round().add(Fixed::HALF);
-    ghost_at(Kind::GhostTop, height, device, scale)
+    let device = BOX_TOP.mul(scale).round().add(Fixed::HALF);
+    ghost_at(Kind::GhostTop, BOX_TOP, device, scale)
 }
 
 // From `build`: the em box's ghosts are put in, where it is asked for.
@@ -72,7 +75,7 @@ fn is_uncovered(map: HintMap) -> bool
     last.cs_coord.less(Fixed::ZERO)
 }
 
-// From `build`: the baseline is locked in the initial map, where no edge covers it.
+// From `build`: a glyph whose hints leave the baseline out has it locked in the initial map all the same.
 pub(crate) fn with_baseline(map: HintMap) -> HintMap
     requires { ⌜ map .len ≤ 96 ⌝ }
     ensures { λ r. ⌜ r ≡ baselined map ⌝ }

@@ -4,18 +4,14 @@ use hintmap::Edges;
 use hintmap::HintMap;
 use stems::Hint;
 use stems::HintMask;
+use stems::MAX_HINTS;
 use stems::StemHint;
+use stems::Stems;
 use zones::Captured;
 use zones::HintState;
 ghost use mathlib.Core.Path.{_≡_};
 ghost use Prim.Native.Nat.{min};
-ghost use Rattle.build.specs.Place.{declaredIn, readyOf, lockedTurns, freeTurns};
-
-// The stems that are declared.
-pub struct Stems {
-    pub list: [StemHint; 96],
-    pub count: usize,
-}
+ghost use Rattle.build.specs.Place.{declaredIn, preparedOf, lockedTurns, freeTurns};
 
 // The map so far, and the stems that are still to be placed.
 pub struct Placed {
@@ -27,12 +23,12 @@ pub struct Placed {
 fn declared(count: usize) -> usize
     ensures { λ r. ⌜ r ≡ min count 96 ⌝ }
 {
-    least(count, 96)
+    least(count, MAX_HINTS)
 }
 
 // From `build`: a stem's edges, and whether they are locked or captured.
-fn ready(state: HintState, stem: StemHint, index: u8) -> Captured
-    ensures { λ r. ⌜ r ≡ readyOf state stem index ⌝ }
+fn prepared(state: HintState, stem: StemHint, index: u8) -> Captured
+    ensures { λ r. ⌜ r ≡ preparedOf state stem index ⌝ }
 {
     let bottom = Hint::setup(stem, index, state.scale, true);
     let top = Hint::setup(stem, index, state.scale, false);
@@ -71,7 +67,7 @@ pub(crate) fn place_locked(
             continue;
         }
         let stem = stems.list[i];
-        let edges = ready(state, stem, i as u8);
+        let edges = prepared(state, stem, i as u8);
         if !edges.captured {
             continue;
         }

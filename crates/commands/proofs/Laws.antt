@@ -15,7 +15,7 @@ use Rattle.words.specs.Answers.{firstOf, numberOf}
 use Rattle.words.proofs.Rows.{Refusing, none-holds, found, onward}
 use Rattle.words.proofs.Answers.{refusal, is-ok, both-ok}
 use Rattle.commands.specs.declared.reading.Command.{Command}
-use Rattle.commands.specs.Commands.{nextAt, readAt, Placed, commandsFrom, commandsOf}
+use Rattle.commands.specs.Commands.{nextAt, readAt, CommandAt, commandsFrom, commandsOf}
 use Rattle.commands.specs.Faults.{maskPast, isBad, hasBadMask, faultRows, commandRows}
 
 -- a mask that is not past its bytes ends among them
@@ -46,7 +46,7 @@ module _ (b : ℕ) (w : ℕ → ℕ) (n : ℕ) where
   enough zero g i h k = sym (none g i (omega arith))
   enough (suc f) zero i h k = none (suc f) i (omega arith)
   enough (suc f) (suc g) i h k =
-      ap (λ (l : List Placed). cond (ltb i n) (record { place = b + i; command = readAt w n i .command } ∷ l) [])
+      ap (λ (l : List CommandAt). cond (ltb i n) (record { place = b + i; command = readAt w n i .command } ∷ l) [])
       (enough f g (nextAt w i) (omega arith) (omega arith))
 
   pub first : (i : ℕ) → i < n → commandsFrom (n - i) b w n i ≡ record { place = b + i; command = readAt w n i .command } ∷ commandsFrom (n - nextAt w i) b w n (nextAt w i)
@@ -54,7 +54,7 @@ module _ (b : ℕ) (w : ℕ → ℕ) (n : ℕ) where
   first i h =
       let e : n - i ≡ suc (n - (i + 1)) = omega arith in
       rw (e, lt-ltb i n h)
-      (ap (λ (l : List Placed). record { place = b + i; command = readAt w n i .command } ∷ l)
+      (ap (λ (l : List CommandAt). record { place = b + i; command = readAt w n i .command } ∷ l)
       (enough (n - (i + 1)) (n - nextAt w i) (nextAt w i) (omega arith) (omega arith)))
 
   pub from-start : commandsOf b w n ≡ commandsFrom (n - 0) b w n 0
@@ -95,7 +95,7 @@ faults-refusing bytes place c (suc (suc j)) h = absurd (no h)
     no : suc (suc j) < 2 → ⊥
     no h = omega arith
 
-pub rows-refusing : (bytes : ℕ) (cs : List Placed) → Refusing Ok (commandRows bytes cs)
+pub rows-refusing : (bytes : ℕ) (cs : List CommandAt) → Refusing Ok (commandRows bytes cs)
 unfolding commandRows
 rows-refusing bytes [] j h = absurd (no h)
   where

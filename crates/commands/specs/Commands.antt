@@ -4,7 +4,7 @@ use mathlib.Core.List.{List, [], _∷_}
 use Prim.Native.Nat.{ℕ, zero, suc, _+_}
 use lib.Dec.{eqb, ltb}
 use Rattle.pen.specs.declared.strokes.Point.{Point}
-use Rattle.hints.specs.declared.path.Path.the-variants.{Move, Line, Curve, Finish}
+use Rattle.pen.specs.declared.strokes.Path.the-variants.{Move, Line, Curve, Finish}
 use Rattle.words.specs.Words.{numberAt}
 use Rattle.commands.specs.declared.reading.Marking.the-variants.{Bad, Stem, Mask, Counter, Clear, Close}
 use Rattle.commands.specs.declared.reading.Command.{Command}
@@ -42,16 +42,16 @@ unfoldable pub readAt : (ℕ → ℕ) → ℕ → ℕ → Read
 readAt w n i = record { command = cond (ltb n (nextAt w i)) (Mark Bad) (commandOf w i (w i)); next = nextAt w i }
 
 -- a command, and the word of the script at which its kind stands
-pub record Placed : Type 0 where
+pub record CommandAt : Type 0 where
   pub place : ℕ
   pub command : Command
 
 -- the commands from word i of n on, at most f of them, where word 0 is word b of the script
-unfoldable pub commandsFrom : ℕ → ℕ → (ℕ → ℕ) → ℕ → ℕ → List Placed
+unfoldable pub commandsFrom : ℕ → ℕ → (ℕ → ℕ) → ℕ → ℕ → List CommandAt
 commandsFrom zero b w n i = []
 commandsFrom (suc f) b w n i =
     cond (ltb i n) (record { place = b + i; command = readAt w n i .command } ∷ commandsFrom f b w n (nextAt w i)) []
 
 -- the commands in n words, of which there are at most n
-unfoldable pub commandsOf : ℕ → (ℕ → ℕ) → ℕ → List Placed
+unfoldable pub commandsOf : ℕ → (ℕ → ℕ) → ℕ → List CommandAt
 commandsOf b w n = commandsFrom n b w n 0

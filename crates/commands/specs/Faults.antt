@@ -10,7 +10,7 @@ use Rattle.words.specs.Rows.{Row, row}
 use Rattle.commands.specs.declared.reading.Marking.the-variants.{Bad, Stem, Mask, Counter, Clear, Close}
 use Rattle.commands.specs.declared.reading.Command.{Command}
 use Rattle.commands.specs.declared.reading.Command.the-variants.{Mark, Draw}
-use Rattle.commands.specs.Commands.{Placed}
+use Rattle.commands.specs.Commands.{CommandAt}
 
 -- start or length negative, or the end past the mask bytes; the sum is exact
 unfoldable pub maskPast : ℕ → ℕ → ℕ → Bool
@@ -42,6 +42,6 @@ hasBadMask bytes (Draw p) = false
 abbrev pub faultRows : ℕ → ℕ → Command → List (Row Answer)
 faultRows bytes place c = row (isBad c) (BadCommand place) ∷ row (hasBadMask bytes c) (BadMask place) ∷ []
 
-unfoldable pub commandRows : ℕ → List Placed → List (Row Answer)
+unfoldable pub commandRows : ℕ → List CommandAt → List (Row Answer)
 commandRows bytes [] = []
 commandRows bytes (c ∷ cs) = faultRows bytes (c .place) (c .command) ++ commandRows bytes cs

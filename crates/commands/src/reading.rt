@@ -1,6 +1,6 @@
 // Reading one command.
 use fixed::Fixed;
-use hints::Path;
+use pen::Path;
 use pen::Point;
 use words::natural;
 use words::number;

@@ -13,15 +13,16 @@ use Rattle.fixed.specs.declared.Fixed.{Fixed}
 use Rattle.stems.specs.declared.mask.HintMask.{HintMask}
 use Rattle.zones.specs.declared.state.HintParams.{HintParams}
 use Rattle.zones.specs.declared.state.HintState.{HintState}
-use Rattle.drawing.specs.declared.calls.Drawing.{Drawing}
+use Rattle.hints.specs.declared.drawing.Drawing.{Drawing}
 use Rattle.drawing.specs.declared.calls.After.{After}
-use Rattle.hints.specs.declared.path.Answer.{Answer}
+use Rattle.hints.specs.declared.path.CallAnswer.{CallAnswer}
 use Rattle.hints.proofs.Steps.{same-answer}
 use Rattle.drawing.specs.declared.opening.Opening.{Opening}
 use Rattle.drawing.specs.declared.opening.Opening.the-variants.{Ok, BadScale, BadBlues}
 use Rattle.drawing.specs.declared.opening.Opened.{Opened}
 use Rattle.drawing.specs.Open.{openNumber}
-use Rattle.drawing.specs.Calls.{Call, Called}
+use Rattle.hints.specs.Calls.{Call}
+use Rattle.drawing.specs.After.{Called}
 use Rattle.drawing.proofs.calls.hstem.Reads as hstem-reads
 use Rattle.drawing.proofs.calls.hint_mask.Reads as hint-mask-reads
 use Rattle.drawing.proofs.calls.counter_mask.Reads as counter-mask-reads
@@ -58,7 +59,7 @@ module _ (κs : Lfts 0) (st : HintState) (d r r′ : Drawing) where
   close-unique p q = p ∙ sym q
 
 after : {a b : After} → a .drawing ≡ b .drawing → a .answer ≡ b .answer → a ≡ b
-after {a} {b} d e = ap (λ (x : Drawing). record { drawing = x; answer = a .answer }) d ∙ ap (λ (x : Answer). record { drawing = b .drawing; answer = x }) e
+after {a} {b} d e = ap (λ (x : Drawing). record { drawing = x; answer = a .answer }) d ∙ ap (λ (x : CallAnswer). record { drawing = b .drawing; answer = x }) e
 
 -- a call has one outcome
 called-once : {st : HintState} {d : Drawing} {c : Call} {out m m′ : List ℤ} {r r′ : After} → Called st d c out r m → Called st d c out r′ m′ → (r ≡ r′) × (m ≡ m′)

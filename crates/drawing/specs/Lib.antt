@@ -1,2 +1,2 @@
-pub mod Calls
+pub mod After
 pub mod Open

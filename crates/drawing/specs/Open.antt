@@ -12,14 +12,11 @@ use Rattle.zones.specs.declared.state.HintState.{HintState}
 use Rattle.zones.specs.Zones.{noZone}
 use Rattle.zones.specs.State.{stateOf}
 use Rattle.pen.specs.Strokes.{newPen}
-use Rattle.drawing.specs.declared.calls.Drawing.{Drawing}
+use Rattle.hints.specs.declared.drawing.Drawing.{Drawing}
 use Rattle.drawing.specs.declared.opening.Opening.{Opening}
 use Rattle.drawing.specs.declared.opening.Opening.the-variants.{Ok, BadScale, BadBlues}
 use Rattle.drawing.specs.declared.opening.Opened.{Opened}
 use Rattle.hints.specs.Hints.{newHints}
-
-abbrev pub newDrawing : Fixed → Drawing
-newDrawing s = record { hints = newHints s; pen = newPen }
 
 -- every list has at most seven pairs
 unfoldable pub countsFit : HintParams → Bool

@@ -1,29 +1,26 @@
 // The calls on a drawing. One that writes records does all of its work or none.
 use fixed::Fixed;
 use hintmap::HintMap;
-use hints::Answer;
+use hints::CallAnswer;
+use hints::Drawing;
 use hints::Drawn;
 use hints::Hints;
-use hints::Path;
 use hints::draw;
+use pen::Path;
 use pen::Pen;
 use pen::Point;
 use stems::HintMask;
 use zones::HintState;
 ghost use mathlib.Core.Path.{_≡_};
 ghost use mathlib.Core.Bool.{true};
-ghost use Rattle.hints.specs.declared.path.Path.the-variants.{Move, Line, Curve, Finish};
+ghost use Rattle.pen.specs.declared.strokes.Path.the-variants.{Move, Line, Curve, Finish};
 ghost use Rattle.hints.specs.Path.{hasPoint};
-ghost use Rattle.drawing.specs.Calls.{Called, nextOf, settledBy, stem, hintMask, counterMask, clear, close, draw};
-
-pub struct Drawing {
-    pub hints: Hints,
-    pub pen: Pen,
-}
+ghost use Rattle.hints.specs.Calls.{nextOf, stem, hintMask, counterMask, clear, close, draw};
+ghost use Rattle.drawing.specs.After.{Called, settledBy};
 
 pub struct After {
     pub drawing: Drawing,
-    pub answer: Answer,
+    pub answer: CallAnswer,
 }
 
 // The drawing with other hints.
@@ -78,14 +75,14 @@ fn settle(drawing: Drawing, hints: Hints, drawn: Drawn) -> After
 {
     let answer = drawn.answer;
     match answer {
-        Answer::Wrote(_) => {
+        CallAnswer::Wrote(_) => {
             let pen = drawn.pen;
             After {
                 drawing: Drawing { hints, pen },
                 answer,
             }
         }
-        Answer::NoRoom => After { drawing, answer },
+        CallAnswer::NoRoom => After { drawing, answer },
     }
 }
 

@@ -3,7 +3,6 @@ mod calls;
 mod opening;
 
 pub use calls::After;
-pub use calls::Drawing;
 pub use calls::clear_hints;
 pub use calls::close;
 pub use calls::counter_mask;

@@ -1,13 +1,16 @@
 // Opening a drawing without a script.
-use crate::calls::Drawing;
 use fixed::Fixed;
+use hints::Drawing;
 use hints::Hints;
 use pen::Pen;
 use zones::BlueZone;
 use zones::HintParams;
 use zones::HintState;
+use zones::MAX_BLUE_ZONES;
+use zones::MAX_BLUES;
 ghost use mathlib.Core.Path.{_≡_};
-ghost use Rattle.drawing.specs.Open.{newDrawing, refusedState, refusedBy, countsFit, openOf, Opens};
+ghost use Rattle.hints.specs.Calls.{newDrawing};
+ghost use Rattle.drawing.specs.Open.{refusedState, refusedBy, countsFit, openOf, Opens};
 
 // How opening ended.
 pub enum Opening {
@@ -40,16 +43,16 @@ fn counts_fit(params: HintParams) -> bool
     let others = params.other_blues;
     let family = params.family_blues;
     let family_others = params.family_other_blues;
-    if 7 < blues.count {
+    if MAX_BLUES < blues.count {
         return false;
     }
-    if 7 < others.count {
+    if MAX_BLUES < others.count {
         return false;
     }
-    if 7 < family.count {
+    if MAX_BLUES < family.count {
         return false;
     }
-    family_others.count <= 7
+    family_others.count <= MAX_BLUES
 }
 
 // The zones beside a refused opening: scale 1.0 and all else 0.
@@ -71,7 +74,7 @@ fn refused_state() -> HintState
         suppress_overshoot: false,
         do_em_box_hints: false,
         boost: Fixed::ZERO,
-        zones: [none; 12],
+        zones: [none; MAX_BLUE_ZONES],
         zone_count: 0,
     }
 }

@@ -16,7 +16,7 @@ use mir.Val.{SFits, bits, hbits, toZ, ofZ, sel}
 use lib.Signed.{mag}
 use mir.ValLaws.{half-full, bits-suc}
 use mir.Facts.{toZ-ofZ, toZ-pos, toZ-neg, fits-ofZ, sfits-widen, sfits-toZ, fits-of-lt}
-use Rattle.fixed.specs.Whole.{lowBits, clearLow, bitsOf, signed, wrap32}
+use Rattle.fixed.specs.Integers.{lowBits, clearLow, bitsOf, signed, wrap32}
 use Rattle.fixed.proofs.Ints.{ints, up, dn, of-add, of-sub, sub-fits}
 
 -- 2^(j + k) − (n + 1) has the low k bits 2^k − (n % 2^k + 1)

@@ -10,7 +10,7 @@ use lib.Signed.{_≤ℤ_, _<ℤ_}
 use mir.Syntax.{w32}
 use mir.Val.{SFits}
 use Rattle.fixed.specs.declared.Fixed.{Fixed}
-use Rattle.fixed.specs.Whole.{lowBits, clearLow, wrap32}
+use Rattle.fixed.specs.Integers.{lowBits, clearLow, wrap32}
 use Rattle.fixed.specs.Fixed.{fromBits, HALF, addF, subF, roundF, truncF}
 use Rattle.fixed.proofs.Ints.{ints, one, fit-up, of-add, of-sub, add-fits, sub-fits}
 use Rattle.fixed.proofs.Bits.{wrap-id, wrap-fits, low-lt, of-wrap}

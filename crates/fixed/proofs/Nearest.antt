@@ -10,7 +10,7 @@ use lib.Signed.{_<ℤ_, ltZ, quotZ, natAbs-le}
 use borrow.Author.Tests.{ltb-true}
 use mir.Syntax.{w32, w64}
 use mir.Val.{SFits, ofZ}
-use Rattle.fixed.specs.Whole.{nearest, wrap32}
+use Rattle.fixed.specs.Integers.{nearest, wrap32}
 use Rattle.fixed.specs.Fixed.{MAX, overZero, quotientOf}
 use Rattle.fixed.proofs.Ints.{ints, of-sub, up-neg, dn-neg}
 use Rattle.fixed.proofs.Bits.{wrap-id}

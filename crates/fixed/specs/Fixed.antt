@@ -4,7 +4,7 @@ use Prim.Native.Nat.{zero, suc, _-_, _^_}
 use lib.IntN.{ℤ, pos, negsuc, negℤ, natAbs, _+ℤ_, _-ℤ_, _*ℤ_}
 use lib.Signed.{ltZ, leZ, quotZ}
 use Rattle.fixed.specs.declared.Fixed.{Fixed}
-use Rattle.fixed.specs.Whole.{lowBits, clearLow, wrap32, nearest}
+use Rattle.fixed.specs.Integers.{lowBits, clearLow, wrap32, nearest}
 
 -- the number of these bits
 abbrev pub fromBits : ℤ → Fixed

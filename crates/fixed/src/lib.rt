@@ -3,7 +3,7 @@ ghost use mathlib.Core.Path.{_≡_};
 ghost use lib.Signed.{_<ℤ_};
 ghost use lib.IntN.{pos, natAbs, _*ℤ_};
 ghost use Prim.Native.Nat.{min, _≤_, _<_, _^_};
-ghost use Rattle.fixed.specs.Whole.{bitsOf, signed, wrap32, nearest};
+ghost use Rattle.fixed.specs.Integers.{bitsOf, signed, wrap32, nearest};
 ghost use Rattle.fixed.specs.Fixed.{fromBits, addF, subF, negF, absF, twiceF, mulF, divF, mulDivF, roundF, fractF, halfF, midpointF, truncF, lessF, atMostF, sameF, minF, maxF};
 
 // The 32 bits of a number, as one without a sign.

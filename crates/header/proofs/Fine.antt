@@ -9,7 +9,7 @@ use lib.IntN.{pos}
 use lib.ListN.{length}
 use lib.Signed.{_<ℤ_}
 use borrow.Author.Tests.{le-ltb, ltb-false}
-use Rattle.fixed.specs.Whole.{signed}
+use Rattle.fixed.specs.Integers.{signed}
 use Rattle.fixed.specs.Fixed.{fromBits, lessF}
 use Rattle.fixed.proofs.Ints.{ints}
 use Rattle.fixed.proofs.Order.{heights}
@@ -18,7 +18,7 @@ use Rattle.words.specs.Words.{rawAt, negative, numberAt}
 use Rattle.words.specs.Answers.{firstOf}
 use Rattle.words.proofs.Rows.{Refusing, none-holds}
 use Rattle.header.specs.Header.{differs, padded, headerRows}
-use Rattle.header.specs.Params.{pairsIn, paramRows, Whole}
+use Rattle.header.specs.Params.{pairsIn, paramRows, WholeParams}
 use Rattle.header.proofs.Tests.{refusing, both-false, alike, long}
 
 -- what a script with a fine header has
@@ -58,7 +58,7 @@ module _ (s : List ℕ) where
       let bytes = alike (rawAt s 6 + padded (rawAt s 7)) (length s / 4) (p7 .1) in
       record { enough = omega arith; short = n .1; least = least; most = most; commands = commands; ends = omega arith; masks = masks; bytes = omega arith }
 
-  pub whole : Fine s → firstOf (paramRows (rawAt s)) ≡ Ok → Whole s
+  pub whole : Fine s → firstOf (paramRows (rawAt s)) ≡ Ok → WholeParams s
   unfolding paramRows
   whole h e =
       let f = none-holds Ok (paramRows (rawAt s)) params-refusing e in

@@ -61,7 +61,7 @@ paramsOf w =
     }
 
 -- what a script with a fine header and fine counts has: at most seven pairs a list, and all of them in the script
-pub record Whole (s : List ℕ) : Type 0 where
+pub record WholeParams (s : List ℕ) : Type 0 where
   pub blues : rawAt s 12 ≤ 7
   pub others : rawAt s 13 ≤ 7
   pub family : rawAt s 14 ≤ 7

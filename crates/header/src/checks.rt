@@ -1,7 +1,9 @@
 // The tests of the header and of the parameters, in 01's order.
 use words::Answer;
+use words::layout;
 use words::natural;
 use words::number;
+use zones::MAX_BLUES;
 ghost use mathlib.Core.Path.{_≡_};
 ghost use Prim.Native.Nat.{_≤_};
 ghost use lib.ListN.{length, drop};
@@ -13,10 +15,10 @@ ghost use Rattle.header.specs.Params.{paramRows};
 fn length_bad(bytes: usize) -> bool
     ensures { λ r. ⌜ r ≡ lengthBad bytes ⌝ }
 {
-    if bytes < 32 {
+    if bytes < layout::MIN_SCRIPT_BYTES {
         return true;
     }
-    if 65536 < bytes {
+    if layout::MAX_SCRIPT_BYTES < bytes {
         return true;
     }
     bytes % 4 != 0
@@ -44,37 +46,37 @@ pub fn check_header(script: &[u8]) -> Answer
     if length_bad(bytes) {
         return Answer::BadScript(0);
     }
-    if natural(script, 0) != 1 {
-        return Answer::BadScript(0);
+    if natural(script, layout::VERSION) != layout::VERSION_ONE {
+        return Answer::BadScript(layout::VERSION);
     }
-    if natural(script, 2) != 8 {
-        return Answer::BadScript(2);
+    if natural(script, layout::PARAMS_START) != layout::HEADER_WORDS {
+        return Answer::BadScript(layout::PARAMS_START);
     }
-    let params = natural(script, 3);
-    if params < 8 {
-        return Answer::BadScript(3);
+    let params = natural(script, layout::PARAMS_COUNT);
+    if params < layout::MIN_PARAMS {
+        return Answer::BadScript(layout::PARAMS_COUNT);
     }
-    if 64 < params {
-        return Answer::BadScript(3);
+    if layout::MAX_PARAMS < params {
+        return Answer::BadScript(layout::PARAMS_COUNT);
     }
-    let commands = natural(script, 4);
-    if commands != 8 + params {
-        return Answer::BadScript(4);
+    let commands = natural(script, layout::COMMANDS_START);
+    if commands != layout::HEADER_WORDS + params {
+        return Answer::BadScript(layout::COMMANDS_START);
     }
-    let count = natural(script, 5);
+    let count = natural(script, layout::COMMANDS_COUNT);
     if bytes / 4 < commands + count {
-        return Answer::BadScript(5);
+        return Answer::BadScript(layout::COMMANDS_COUNT);
     }
-    let masks = natural(script, 6);
+    let masks = natural(script, layout::MASKS_START);
     if masks != commands + count {
-        return Answer::BadScript(6);
+        return Answer::BadScript(layout::MASKS_START);
     }
-    let mask_bytes = natural(script, 7);
+    let mask_bytes = natural(script, layout::MASKS_COUNT);
     if masks + (mask_bytes + 3) / 4 != bytes / 4 {
-        return Answer::BadScript(7);
+        return Answer::BadScript(layout::MASKS_COUNT);
     }
     if !all_zero(script, 4 * masks + mask_bytes) {
-        return Answer::BadScript(7);
+        return Answer::BadScript(layout::MASKS_COUNT);
     }
     Answer::Ok
 }
@@ -84,27 +86,29 @@ pub fn check_params(script: &[u8]) -> Answer
     requires { ⌜ 64 ≤ length (now script) ⌝ }
     ensures { λ r. ⌜ Says (firstOf (paramRows (rawAt (now (script .entry))))) r ⌝ }
 {
-    if number(script, 1).bits < 1 {
+    if number(script, layout::SCALE).bits < 1 {
         return Answer::BadScale;
     }
-    let blues = natural(script, 12);
-    if 7 < blues {
-        return Answer::BadBlues(12);
+    let blues = natural(script, layout::BLUES_COUNT);
+    if MAX_BLUES < blues {
+        return Answer::BadBlues(layout::BLUES_COUNT);
     }
-    let others = natural(script, 13);
-    if 7 < others {
-        return Answer::BadBlues(13);
+    let others = natural(script, layout::OTHER_BLUES_COUNT);
+    if MAX_BLUES < others {
+        return Answer::BadBlues(layout::OTHER_BLUES_COUNT);
     }
-    let family = natural(script, 14);
-    if 7 < family {
-        return Answer::BadBlues(14);
+    let family = natural(script, layout::FAMILY_BLUES_COUNT);
+    if MAX_BLUES < family {
+        return Answer::BadBlues(layout::FAMILY_BLUES_COUNT);
     }
-    let family_others = natural(script, 15);
-    if 7 < family_others {
-        return Answer::BadBlues(15);
+    let family_others = natural(script, layout::FAMILY_OTHER_BLUES_COUNT);
+    if MAX_BLUES < family_others {
+        return Answer::BadBlues(layout::FAMILY_OTHER_BLUES_COUNT);
     }
-    if natural(script, 3) != 8 + 2 * (blues + others + family + family_others) {
-        return Answer::BadScript(3);
+    if natural(script, layout::PARAMS_COUNT)
+        != layout::MIN_PARAMS + 2 * (blues + others + family + family_others)
+    {
+        return Answer::BadScript(layout::PARAMS_COUNT);
     }
     Answer::Ok
 }

@@ -10,7 +10,7 @@ use lib.IntN.{ℤ, pos}
 use lib.ListN.{length, take, drop, set, getD, length-append, length-take, length-drop, length-map, take-append-drop}
 use lib.Seq.{length-take-le, take-suc, take-at, drop-at, drop-drop}
 use borrow.Author.Tests.{eq-eqb, ne-eqb}
-use Rattle.fixed.specs.Whole.{bitsOf}
+use Rattle.fixed.specs.Integers.{bitsOf}
 use Rattle.fixed.proofs.Counts.{take-least}
 use Rattle.words.specs.declared.answer.Answer.{Answer}
 use Rattle.words.specs.Answers.{numberOf, placeOf}

@@ -9,7 +9,7 @@ use lib.Dec.{ltb}
 use lib.IntN.{ℤ, pos}
 use lib.ListN.{length, drop, length-replicate}
 use lib.Seq.{take-at}
-use Rattle.fixed.specs.Whole.{lowBits, bitsOf}
+use Rattle.fixed.specs.Integers.{lowBits, bitsOf}
 use Rattle.pen.specs.Records.{written}
 use Rattle.words.specs.declared.answer.Answer.{Answer}
 use Rattle.words.specs.Answers.{numberOf, placeOf, firstOf, refuses}

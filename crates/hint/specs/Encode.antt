@@ -5,7 +5,7 @@ use mathlib.Core.List.{List, [], _∷_, _++_, map}
 use Prim.Native.Nat.{ℕ, _+_, _*_, _/_, _%_}
 use lib.IntN.{ℤ, pos}
 use lib.ListN.{length, take, drop, getD, replicate}
-use Rattle.fixed.specs.Whole.{bitsOf}
+use Rattle.fixed.specs.Integers.{bitsOf}
 use Rattle.words.specs.declared.answer.Answer.{Answer}
 use Rattle.words.specs.Answers.{numberOf, placeOf, refuses}
 use Rattle.run.specs.Room.{fitted}

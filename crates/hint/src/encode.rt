@@ -6,7 +6,7 @@ ghost use mathlib.Core.Path.{_≡_};
 ghost use mathlib.Core.List.{[], _∷_, map};
 ghost use Prim.Native.Nat.{_+_, _*_, _≤_};
 ghost use lib.ListN.{length, take};
-ghost use Rattle.fixed.specs.Whole.{bitsOf};
+ghost use Rattle.fixed.specs.Integers.{bitsOf};
 ghost use Rattle.hint.specs.Encode.{laid, resultIn, answerWords, Answered};
 
 // A word's four bytes, the least first.

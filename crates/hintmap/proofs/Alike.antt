@@ -8,7 +8,7 @@ use Rattle.fixed.specs.declared.Fixed.{Fixed}
 use Rattle.fixed.proofs.Order.{heights}
 use Rattle.stems.specs.declared.edge.Hint.{Hint}
 use Rattle.stems.specs.Edge.{noHint, pairK, atDevice}
-use Rattle.hintmap.specs.Stems.{Past, Stems, none, one, two, Like, Alike, nil, cons}
+use Rattle.hintmap.specs.WholeStems.{Past, WholeStems, none, one, two, Like, Alike, nil, cons}
 
 -- an edge moved on the device differs there only
 pub like-device : (x : Hint) (d : Fixed) → Like x (atDevice x d)
@@ -57,7 +57,7 @@ order-like : {a b c d : Fixed} → a ≡ c → b ≡ d → a .bits ≤ℤ b .bit
 order-like p q l = omega heights
 
 -- whole stems stay whole
-pub stems-alike : {xs ys : List Hint} → Alike xs ys → Stems xs → Stems ys
+pub stems-alike : {xs ys : List Hint} → Alike xs ys → WholeStems xs → WholeStems ys
 stems-alike nil none = none
 stems-alike (cons p a) (one s f r) = one (record { single = sym (ap pairK (p .kind)) ∙ s .single }) (past-like _ _ (p .level) a f) (stems-alike a r)
 stems-alike (cons p (cons q a)) (two s o f r) =

@@ -14,7 +14,7 @@ use Rattle.hintmap.specs.declared.map.HintMap.{HintMap}
 use Rattle.hintmap.specs.declared.insert.Edges.{Edges}
 use Rattle.hintmap.specs.declared.insert.Edges.the-variants.{One, Two}
 use Rattle.hintmap.specs.Map.{view}
-use Rattle.hintmap.specs.Insert.{firstOf, edgesOf, mayEnter, again, placedBy, placedFor}
+use Rattle.hintmap.specs.Insert.{firstEdge, edgesOf, mayEnter, again, placedBy, placedFor}
 use Rattle.hintmap.proofs.Tests.{both}
 
 -- a pair leaves room for its top
@@ -40,4 +40,4 @@ again-enters n true es s₀ s (Two b t) = refl
 again-enters n false es s₀ s e = refl
 
 pub placed-enters : (m : HintMap) (e : Edges) (initial : HintMap) (given : Bool) → mayEnter (m .len) (placedFor m e initial given) ≡ mayEnter (m .len) e
-placed-enters m e initial given = again-enters (m .len) (not (firstOf e .locked) && given) (view initial) (initial .scale) (m .scale) e
+placed-enters m e initial given = again-enters (m .len) (not (firstEdge e .locked) && given) (view initial) (initial .scale) (m .scale) e

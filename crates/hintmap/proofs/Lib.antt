@@ -6,7 +6,7 @@ pub mod Alike
 pub mod Enter
 pub mod View
 pub mod Outcome
-pub mod Stems
+pub mod WholeStems
 pub mod Words
 pub mod Mapping
 pub mod Made

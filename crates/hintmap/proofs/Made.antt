@@ -13,7 +13,7 @@ use Rattle.stems.specs.Edge.{validK, pairK, isValid, shapeOf, edgeOf, setupOf}
 use Rattle.stems.proofs.Edges.{setup-kind, setup-index}
 use Rattle.hintmap.specs.declared.insert.Edges.the-variants.{One}
 use Rattle.hintmap.specs.Insert.{chosenBy, chosen}
-use Rattle.hintmap.specs.Stems.{Made, Like}
+use Rattle.hintmap.specs.WholeStems.{Made, Like}
 use Rattle.hintmap.proofs.Alike.{like-refl}
 
 -- a ghost by itself is made

@@ -15,7 +15,7 @@ use Rattle.stems.specs.declared.edge.Hint.{Hint}
 use Rattle.hintmap.specs.declared.map.HintMap.{HintMap}
 use Rattle.stems.specs.Edge.{noHint}
 use Rattle.hintmap.specs.Map.{view, leading, reach, line, mapOf}
-use Rattle.hintmap.specs.Stems.{height, Stems, Ascends, Last, Above}
+use Rattle.hintmap.specs.WholeStems.{height, WholeStems, Ascends, Last, Above}
 use Rattle.hintmap.proofs.Words.{stems-ascend}
 
 tail-ascends : (e : Hint) (es : List Hint) → Ascends (e ∷ es) → Ascends es
@@ -76,7 +76,7 @@ pub record Mapped (es : List Hint) (s h : Fixed) : Type 0 where
   pub none : length es ≡ 0 → mapOf es s h ≡ mulF h s
 
 -- so every height is mapped, by a map of whole stems
-pub mapped : (m : HintMap) (h : Fixed) → Stems (view m) → Mapped (view m) (m .scale) h
+pub mapped : (m : HintMap) (h : Fixed) → WholeStems (view m) → Mapped (view m) (m .scale) h
 mapped m h r =
     record {
       last = λ k. map-last (view m) (m .scale) h k (stems-ascend r);

@@ -13,7 +13,7 @@ use Rattle.fixed.specs.Fixed.{lessF}
 use Rattle.stems.specs.declared.edge.Hint.{Hint}
 use Rattle.hintmap.specs.declared.map.HintMap.{HintMap}
 use Rattle.stems.specs.Edge.{noHint}
-use Rattle.hintmap.specs.Map.{view, leading, placeOf, countBy, clearAhead, clearBehind}
+use Rattle.hintmap.specs.Map.{view, leading, placeAmong, countBy, clearAhead, clearBehind}
 use Rattle.hintmap.proofs.map.HintMap.{the-type}
 
 -- the array of a map is whole, as a function knows it of an argument
@@ -82,6 +82,6 @@ leading-within f [] = zero-le
 leading-within f (e ∷ es) = one-more (f e) (leading-within f es)
 
 -- a place is no higher than the end
-pub place-below : (m : HintMap) (h : Fixed) → placeOf (view m) h ≤ m .len
+pub place-below : (m : HintMap) (h : Fixed) → placeAmong (view m) h ≤ m .len
 place-below m h =
     omega (arith, leading-within (λ (e : Hint). lessF (e .«cs_coord») h) (view m), length-take (m .len) (m .edges))

@@ -12,8 +12,8 @@ use Rattle.hintmap.specs.declared.insert.Edges.the-variants.{One, Two}
 use Rattle.hintmap.specs.declared.insert.Outcome.{Outcome}
 use Rattle.hintmap.specs.declared.insert.Outcome.the-variants as outcome
 use Rattle.hintmap.specs.Map.{view}
-use Rattle.hintmap.specs.Insert.{firstOf, edgesOf, mayEnter, again, placedBy, charClear, belowClear, aboveClear, putEdges, placeFor, placedFor, onlyIf, outcomeOf, insertBy, insertIn}
-use Rattle.hintmap.specs.Stems.{Alike, nil, cons}
+use Rattle.hintmap.specs.Insert.{firstEdge, edgesOf, mayEnter, again, placedBy, charClear, belowClear, aboveClear, putEdges, placeFor, placedFor, onlyIf, outcomeOf, insertBy, insertIn}
+use Rattle.hintmap.specs.WholeStems.{Alike, nil, cons}
 use Rattle.hintmap.proofs.Alike.{like-device, alike-refl}
 use Rattle.hintmap.proofs.Near.{place-below}
 use Rattle.hintmap.proofs.Enter.{placed-enters}
@@ -93,7 +93,7 @@ module _ (m : HintMap) (e : Edges) (initial : HintMap) (given : Bool) where
 
   -- the edges that are put in have the kinds, stem numbers and character heights of those asked for
   pub placed-same : Alike (edgesOf e) (edgesOf p)
-  placed-same = again-alike (not (firstOf e .locked) && given) (view initial) (initial .scale) (m .scale) e
+  placed-same = again-alike (not (firstEdge e .locked) && given) (view initial) (initial .scale) (m .scale) e
 
   -- what holds of edges that are dropped, and of those that enter by all tests, holds of the outcome
   cases : (Q : Outcome → Type 0) → Q outcome.Dropped → (Clear m e initial given → Q (outcome.Enters at p)) → Q (outcomeOf m e initial given)

@@ -13,7 +13,7 @@ use Rattle.fixed.proofs.Order.{heights}
 use Rattle.stems.specs.declared.edge.Kind.the-variants.{PairBottom, PairTop}
 use Rattle.stems.specs.declared.edge.Hint.{Hint}
 use Rattle.stems.specs.Edge.{noHint, pairK, pairTopK}
-use Rattle.hintmap.specs.Stems.{height, Single, Pair, Past, Stems, none, one, two, Ascends}
+use Rattle.hintmap.specs.WholeStems.{height, Single, Pair, Past, WholeStems, none, one, two, Ascends}
 
 -- ---- heights never fall
 cons-ascends : (x : Hint) (xs : List Hint) → (0 < length xs → height x .bits ≤ℤ height (getD xs 0 noHint) .bits) → Ascends xs → Ascends (x ∷ xs)
@@ -36,7 +36,7 @@ past-least z xs p l =
     omega heights
 
 -- the edges stand in never-falling character height
-pub stems-ascend : {es : List Hint} → Stems es → Ascends es
+pub stems-ascend : {es : List Hint} → WholeStems es → Ascends es
 stems-ascend none = λ i j l k. absurd (omega arith)
 stems-ascend (one {x} {xs} s f r) = cons-ascends x xs (past-least (height x) xs f) (stems-ascend r)
 stems-ascend (two {b} {t} {xs} s o f r) = cons-ascends b (t ∷ xs) (λ _. o) (cons-ascends t xs (past-least (height t) xs f) (stems-ascend r))
@@ -49,7 +49,7 @@ not-both x p q = true≢false (sym (ap pairTopK q) ∙ ap pairTopK p)
 not-single : (x : Hint) → pairK (x .kind) ≡ true → Single x → ⊥
 not-single x p s = true≢false (sym p ∙ s .single)
 
-followed : {es : List Hint} → Stems es → (i : ℕ) → i < length es → getD es i noHint .kind ≡ PairBottom →
+followed : {es : List Hint} → WholeStems es → (i : ℕ) → i < length es → getD es i noHint .kind ≡ PairBottom →
     (suc i < length es) × Pair (getD es i noHint) (getD es (suc i) noHint)
 followed none i l k = absurd (omega arith)
 followed (one {x} s f r) zero l k = absurd (not-single x (ap pairK k) s)
@@ -63,7 +63,7 @@ followed (two s o f r) (suc (suc i)) l k =
     (omega arith, ih .1)
 
 -- a pair's bottom is directly followed by its own top
-pub bottom-top : {es : List Hint} → Stems es → (i : ℕ) → i < length es → getD es i noHint .kind ≡ PairBottom →
+pub bottom-top : {es : List Hint} → WholeStems es → (i : ℕ) → i < length es → getD es i noHint .kind ≡ PairBottom →
     (i + 1 < length es) × Pair (getD es i noHint) (getD es (i + 1) noHint)
 bottom-top r i l k = rw (add-one i) (followed r i l k)
 
@@ -71,16 +71,16 @@ bottom-top r i l k = rw (add-one i) (followed r i l k)
 Beside : Hint → Hint → Type 0
 Beside x y = Pair x y ⊎ ((height x .bits <ℤ height y .bits) × (y .kind ≡ PairTop → ⊥))
 
-first-no-top : {es : List Hint} → Stems es → 0 < length es → getD es 0 noHint .kind ≡ PairTop → ⊥
+first-no-top : {es : List Hint} → WholeStems es → 0 < length es → getD es 0 noHint .kind ≡ PairTop → ⊥
 first-no-top none l k = omega arith
 first-no-top (one {x} s f r) l k = not-single x (ap pairK k) s
 first-no-top (two {b} s o f r) l k = not-both b (s .bottom) k
 
-next : (x : Hint) {xs : List Hint} → Past (height x) xs → Stems xs → 0 < length xs → Beside x (getD xs 0 noHint)
+next : (x : Hint) {xs : List Hint} → Past (height x) xs → WholeStems xs → 0 < length xs → Beside x (getD xs 0 noHint)
 unfolding Beside
 next x {xs} f r l = inr (past-first (height x) xs f l, first-no-top r l)
 
-beside : {es : List Hint} → Stems es → (i : ℕ) → suc i < length es → Beside (getD es i noHint) (getD es (suc i) noHint)
+beside : {es : List Hint} → WholeStems es → (i : ℕ) → suc i < length es → Beside (getD es i noHint) (getD es (suc i) noHint)
 unfolding Beside
 beside none i l = absurd (omega arith)
 beside (one {x} s f r) zero l = next x f r (omega arith)
@@ -90,7 +90,7 @@ beside (two {b} {t} s o f r) (suc zero) l = next t f r (omega arith)
 beside (two s o f r) (suc (suc i)) l = beside r i (omega arith)
 
 -- a pair's top has its own bottom directly before it
-pub top-bottom : {es : List Hint} → Stems es → (i : ℕ) → i < length es → getD es i noHint .kind ≡ PairTop →
+pub top-bottom : {es : List Hint} → WholeStems es → (i : ℕ) → i < length es → getD es i noHint .kind ≡ PairTop →
     (0 < i) × Pair (getD es (i - 1) noHint) (getD es i noHint)
 unfolding Beside
 top-bottom r zero l k = absurd (first-no-top r l k)
@@ -99,7 +99,7 @@ top-bottom {es} r (suc i) l k =
     rw e (omega arith, ⊎-elim (λ p. p) (λ q. absurd (q .1 k)) (beside r i l))
 
 -- neighbours of one height are bottom and top of one stem
-pub shared : {es : List Hint} → Stems es → (i : ℕ) → i + 1 < length es → height (getD es i noHint) ≡ height (getD es (i + 1) noHint) →
+pub shared : {es : List Hint} → WholeStems es → (i : ℕ) → i + 1 < length es → height (getD es i noHint) ≡ height (getD es (i + 1) noHint) →
     Pair (getD es i noHint) (getD es (i + 1) noHint)
 unfolding Beside
 shared {es} r i l e = rw (add-one i) (⊎-elim (λ p. p) (λ q. absurd (level (q .0) (rw (add-one i) at e))) (beside r i (rw (add-one i) at l)))

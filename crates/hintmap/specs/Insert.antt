@@ -13,7 +13,7 @@ use Rattle.hintmap.specs.declared.insert.Edges.the-variants.{One, Two}
 use Rattle.hintmap.specs.declared.insert.Outcome.{Outcome}
 use Rattle.hintmap.specs.declared.insert.Outcome.the-variants.{Enters, Dropped}
 use Rattle.stems.specs.Edge.{isValid, isPairTop, atDevice}
-use Rattle.hintmap.specs.Map.{view, placeOf, putIn, mapOf, clearAhead, clearBehind}
+use Rattle.hintmap.specs.Map.{view, placeAmong, putIn, mapOf, clearAhead, clearBehind}
 
 abbrev pub chosenBy : Bool → Bool → Hint → Hint → Edges
 chosenBy false v b t = One t
@@ -24,9 +24,9 @@ chosenBy true true b t = Two b t
 unfoldable pub chosen : Hint → Hint → Edges
 chosen b t = chosenBy (isValid b) (isValid t) b t
 
-abbrev pub firstOf : Edges → Hint
-firstOf (One e) = e
-firstOf (Two b t) = b
+abbrev pub firstEdge : Edges → Hint
+firstEdge (One e) = e
+firstEdge (Two b t) = b
 
 abbrev pub edgesOf : Edges → List Hint
 edgesOf (One e) = e ∷ []
@@ -50,7 +50,7 @@ tooHigh x (Two b t) = lessF (x .«ds_coord») (t .«ds_coord») || lessF (x .«d
 
 -- the first lies under x on the device
 abbrev pub under : Hint → Edges → Bool
-under x e = lessF (firstOf e .«ds_coord») (x .«ds_coord»)
+under x e = lessF (firstEdge e .«ds_coord») (x .«ds_coord»)
 
 -- the height that the initial map is asked for: a single edge's, or a pair's midpoint
 abbrev pub middleOf : Edges → Fixed
@@ -90,12 +90,12 @@ putEdges m at e = putIn m at (edgesOf e)
 
 -- the place of the edges in a map
 abbrev pub placeFor : HintMap → Edges → ℕ
-placeFor m e = placeOf (view m) (firstOf e .«cs_coord»)
+placeFor m e = placeAmong (view m) (firstEdge e .«cs_coord»)
 
 -- the edges as they are placed: by the initial map where that is given and the first is not locked
 abbrev pub placedFor : HintMap → Edges → HintMap → Bool → Edges
 placedFor m e initial given =
-    placedBy (not (firstOf e .locked) && given) (view initial) (initial .scale) (m .scale) e
+    placedBy (not (firstEdge e .locked) && given) (view initial) (initial .scale) (m .scale) e
 
 -- a test that does not hold drops the edges, whatever comes of those after it
 abbrev pub onlyIf : Bool → Outcome → Outcome

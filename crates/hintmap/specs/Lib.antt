@@ -1,3 +1,3 @@
 pub mod Map
 pub mod Insert
-pub mod Stems
+pub mod WholeStems

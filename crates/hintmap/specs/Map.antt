@@ -37,8 +37,8 @@ leading f [] = 0
 leading f (e ∷ es) = countBy (f e) (leading f es)
 
 -- the place of a height: before the first edge that is not below it
-abbrev pub placeOf : List Hint → Fixed → ℕ
-placeOf es h = leading (λ (e : Hint). lessF (e .«cs_coord») h) es
+abbrev pub placeAmong : List Hint → Fixed → ℕ
+placeAmong es h = leading (λ (e : Hint). lessF (e .«cs_coord») h) es
 
 -- edges put at a place of a list
 abbrev pub putAt : List Hint → ℕ → List Hint → List Hint

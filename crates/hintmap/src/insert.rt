@@ -2,11 +2,13 @@
 use crate::map::HintMap;
 use fixed::Fixed;
 use stems::Hint;
+use stems::LAST_HINT;
+use stems::MAX_HINTS;
 ghost use mathlib.Core.Path.{_≡_};
 ghost use mathlib.Core.Bool.{true, not, _&&_};
 ghost use Prim.Native.Nat.{_≤_};
 ghost use lib.ListN.{length};
-ghost use Rattle.hintmap.specs.Insert.{chosen, firstOf, edgesOf, mayEnter, bars, tooHigh, under, middleOf, around, putEdges, outcomeOf, insertIn};
+ghost use Rattle.hintmap.specs.Insert.{chosen, firstEdge, edgesOf, mayEnter, bars, tooHigh, under, middleOf, around, putEdges, outcomeOf, insertIn};
 
 // What is put in: one edge, or the two of a pair.
 pub enum Edges {
@@ -35,7 +37,7 @@ impl Edges {
     }
 
     fn first(self) -> Hint
-        ensures { λ r. ⌜ r ≡ firstOf self ⌝ }
+        ensures { λ r. ⌜ r ≡ firstEdge self ⌝ }
     {
         match self {
             Edges::One(e) => e,
@@ -57,17 +59,18 @@ impl Edges {
         ensures { λ r. ⌜ r ≡ mayEnter len self ⌝ }
     {
         match self {
-            Edges::One(_) => len < 96,
+            Edges::One(_) => len < MAX_HINTS,
             Edges::Two(b, t) => {
                 if t.cs_coord.less(b.cs_coord) {
                     return false;
                 }
-                len < 95
+                len < LAST_HINT
             }
         }
     }
 
-    // Whether the edge x at the place stands in the way in character height.
+    // Whether the edge x at the place stands in the way in character height: it is at the same height, a pair would reach over it, or it
+    // is the top of a pair, into which the new edges would go.
     fn barred(self, x: Hint) -> bool
         ensures { λ r. ⌜ r ≡ bars x self ⌝ }
     {
@@ -115,7 +118,7 @@ impl Edges {
 
     // Whether they are placed again: an initial map is given, and the first is not locked.
     fn is_free(self, given: bool) -> bool
-        ensures { λ r. ⌜ r ≡ (not (firstOf self .locked) && given) ⌝ }
+        ensures { λ r. ⌜ r ≡ (not (firstEdge self .locked) && given) ⌝ }
     {
         let f = self.first();
         if f.is_locked() {
@@ -134,7 +137,7 @@ impl Edges {
         }
     }
 
-    // Placed by a device height: a single edge there, a pair around it.
+    // Placed by a device height: a single edge there, a pair around it, so that the stem keeps the width that the scale gives it.
     fn around(self, device: Fixed, scale: Fixed) -> Edges
         ensures { λ r. ⌜ r ≡ around device scale self ⌝ }
     {

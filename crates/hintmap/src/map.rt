@@ -2,11 +2,12 @@
 use fixed::Fixed;
 use fixed::least;
 use stems::Hint;
+use stems::MAX_HINTS;
 ghost use mathlib.Core.Path.{_≡_};
 ghost use Rattle.hintmap.specs.Map.{newMap, invalidMap, validMap, view, line, mapOf};
 
 pub struct HintMap {
-    pub edges: [Hint; 96],
+    pub edges: [Hint; MAX_HINTS],
     pub len: usize,
     pub is_valid: bool,
     pub scale: Fixed,
@@ -26,7 +27,7 @@ impl HintMap {
     {
         let none = Hint::none();
         HintMap {
-            edges: [none; 96],
+            edges: [none; MAX_HINTS],
             len: 0,
             is_valid: false,
             scale,
@@ -55,7 +56,7 @@ impl HintMap {
     pub fn transform(self, height: Fixed) -> Fixed
         ensures { λ r. ⌜ r ≡ mapOf (view self) (self .scale) height ⌝ }
     {
-        let len = least(self.len, 96);
+        let len = least(self.len, MAX_HINTS);
         if len == 0 {
             return height.mul(self.scale);
         }

@@ -1,3 +1,3 @@
 pub mod Steps
-pub mod Outcome
+pub mod Drew
 pub mod Unique

@@ -17,11 +17,11 @@ use Rattle.pen.specs.Records.{emitted, wordsOf, written, fits}
 use Rattle.pen.specs.Strokes.{moveOf, lineOf, curveOf, finishOf}
 use Rattle.pen.proofs.Words.{count-is, words-emitted, move-short, line-short, curve-short, finish-short}
 use Rattle.hints.specs.declared.hints.Hints.{Hints}
-use Rattle.hints.specs.declared.path.Path.{Path}
-use Rattle.hints.specs.declared.path.Path.the-variants.{Move, Line, Curve, Finish}
+use Rattle.pen.specs.declared.strokes.Path.{Path}
+use Rattle.pen.specs.declared.strokes.Path.the-variants.{Move, Line, Curve, Finish}
 use Rattle.hints.specs.declared.path.Drawn.{Drawn}
-use Rattle.hints.specs.declared.path.Answer.{Answer}
-use Rattle.hints.specs.declared.path.Answer.the-variants.{Wrote, NoRoom}
+use Rattle.hints.specs.declared.path.CallAnswer.{CallAnswer}
+use Rattle.hints.specs.declared.path.CallAnswer.the-variants.{Wrote, NoRoom}
 use Rattle.hints.specs.Hints.{readyBy, readyOf}
 use Rattle.hints.specs.Path.{strokeBy, callNumber, callWords, Drew}
 
@@ -104,7 +104,7 @@ module _ {t : Stroke} {from : Pen} {out : List ℤ} {said : Drawn} {exit : List 
       go false f n p l = record { fit = f; pen = p; left = l }
 
 -- the number and the words of an answer tell which it is
-pub same-answer : (a b : Answer) → callNumber a ≡ callNumber b → callWords a ≡ callWords b → a ≡ b
+pub same-answer : (a b : CallAnswer) → callNumber a ≡ callNumber b → callWords a ≡ callWords b → a ≡ b
 same-answer (Wrote n) (Wrote k) e w = ap Wrote w
 same-answer (Wrote n) NoRoom e w = absurd (omega arith)
 same-answer NoRoom (Wrote k) e w = absurd (omega arith)

@@ -11,7 +11,7 @@ use Rattle.stems.specs.declared.mask.HintMask.{HintMask}
 use Rattle.zones.specs.declared.state.HintState.{HintState}
 use Rattle.pen.specs.declared.strokes.Pen.{Pen}
 use Rattle.hints.specs.declared.hints.Hints.{Hints}
-use Rattle.hints.specs.declared.path.Answer.{Answer}
+use Rattle.hints.specs.declared.path.CallAnswer.{CallAnswer}
 use Rattle.hints.specs.declared.path.Drawn.{Drawn}
 use Rattle.hints.proofs.Steps.{same-answer}
 use Rattle.hints.proofs.hints.Hints.new.Reads as new-reads
@@ -40,7 +40,7 @@ module _ (κs : Lfts 0) (h r r′ : Hints) where
   ready-unique st p q = p ∙ sym q
 
 drawn : {d e : Drawn} → d .pen ≡ e .pen → d .answer ≡ e .answer → d ≡ e
-drawn {d} {e} p a = ap (λ (x : Pen). record { pen = x; answer = d .answer }) p ∙ ap (λ (x : Answer). record { pen = e .pen; answer = x }) a
+drawn {d} {e} p a = ap (λ (x : Pen). record { pen = x; answer = d .answer }) p ∙ ap (λ (x : CallAnswer). record { pen = e .pen; answer = x }) a
 
 module _ (κs : Lfts 1) (a : ArgsD draw.signature κs) (r r′ : ResD draw.signature κs) (x x′ : AtExit (endedOf 1 draw-kinds.ps draw-kinds.r) κs) where
   pub draw-unique : draw-reads.Post κs a r x → draw-reads.Post κs a r′ x′ → (r ≡ r′) × (now (x .1 .1 .1 .1 .0) ≡ now (x′ .1 .1 .1 .1 .0))

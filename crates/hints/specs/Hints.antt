@@ -11,8 +11,8 @@ use Rattle.stems.specs.Mask.{allActive, sameMask}
 use Rattle.zones.specs.declared.state.HintState.{HintState}
 use Rattle.hintmap.specs.declared.map.HintMap.{HintMap}
 use Rattle.hintmap.specs.Map.{newMap, invalidMap, view, mapOf}
-use Rattle.build.specs.declared.place.Stems.{Stems}
-use Rattle.build.specs.declared.save.Built.{Built}
+use Rattle.stems.specs.declared.edge.Stems.{Stems}
+use Rattle.build.specs.declared.build_map.Built.{Built}
 use Rattle.build.specs.Build.{initialOf, builtOf}
 use Rattle.pen.specs.declared.strokes.Point.{Point}
 use Rattle.hints.specs.declared.hints.Hints.{Hints}

@@ -11,11 +11,11 @@ use Rattle.pen.specs.declared.strokes.Pen.{Pen}
 use Rattle.pen.specs.declared.strokes.Stroke.{Stroke}
 use Rattle.pen.specs.Records.{wordsOf, written, fits}
 use Rattle.pen.specs.Strokes.{moveOf, lineOf, curveOf, finishOf}
-use Rattle.hints.specs.declared.path.Path.{Path}
-use Rattle.hints.specs.declared.path.Path.the-variants.{Move, Line, Curve, Finish}
+use Rattle.pen.specs.declared.strokes.Path.{Path}
+use Rattle.pen.specs.declared.strokes.Path.the-variants.{Move, Line, Curve, Finish}
 use Rattle.hints.specs.declared.path.Drawn.{Drawn}
-use Rattle.hints.specs.declared.path.Answer.{Answer}
-use Rattle.hints.specs.declared.path.Answer.the-variants.{Wrote, NoRoom}
+use Rattle.hints.specs.declared.path.CallAnswer.{CallAnswer}
+use Rattle.hints.specs.declared.path.CallAnswer.the-variants.{Wrote, NoRoom}
 use Rattle.hints.specs.Hints.{devicePoint}
 
 -- whether a call has points, which the current map carries
@@ -34,17 +34,17 @@ strokeBy m s pen Finish = finishOf pen
 
 -- ---- the answer of a call that writes records
 -- 01's number: 0 is OK, 6 NO_ROOM
-abbrev pub callNumber : Answer → ℕ
+abbrev pub callNumber : CallAnswer → ℕ
 callNumber (Wrote n) = 0
 callNumber NoRoom = 6
 
 -- the words written, 0 if refused
-abbrev pub callWords : Answer → ℕ
+abbrev pub callWords : CallAnswer → ℕ
 callWords (Wrote n) = n
 callWords NoRoom = 0
 
 -- 01's place
-abbrev pub callPlace : Answer → ℕ
+abbrev pub callPlace : CallAnswer → ℕ
 callPlace a = 0
 
 -- the outcome of a stroke: with room for its words they are written and the pen is the stroke's; else pen and words are as they came

@@ -1,15 +1,15 @@
 // The hints of a drawing: its stems, the present mask and both maps.
-use build::Stems;
 use build::build_initial;
 use build::build_map;
 use fixed::Fixed;
 use hintmap::HintMap;
-use pen::Point;
 use stems::HintMask;
+use stems::MAX_HINTS;
 use stems::StemHint;
+use stems::Stems;
 use zones::HintState;
 ghost use mathlib.Core.Path.{_≡_};
-ghost use Rattle.hints.specs.Hints.{unusedStem, newHints, withStem, withMask, withInitial, countered, readyOf, devicePoint};
+ghost use Rattle.hints.specs.Hints.{unusedStem, newHints, withStem, withMask, withInitial, countered, readyOf};
 
 pub struct Hints {
     pub stems: Stems,
@@ -38,7 +38,7 @@ impl Hints {
     {
         let none = declared(Fixed::ZERO, Fixed::ZERO);
         let stems = Stems {
-            list: [none; 96],
+            list: [none; MAX_HINTS],
             count: 0,
         };
         let map = HintMap::new(scale);
@@ -60,7 +60,7 @@ impl Hints {
         }
         let mut stems = self.stems;
         let count = stems.count;
-        if count < 96 {
+        if count < MAX_HINTS {
             stems.list[count] = declared(min, max);
             stems.count = count + 1;
             let mut hints = self;
@@ -134,17 +134,5 @@ impl Hints {
         hints.stems = after;
         hints.map = made;
         hints
-    }
-}
-
-// Ports `hint` and `scale`: a character point on the device.
-pub(crate) fn place(map: HintMap, scale: Fixed, at: Point) -> Point
-    ensures { λ r. ⌜ r ≡ devicePoint map scale at ⌝ }
-{
-    let x = at.x;
-    let y = at.y;
-    Point {
-        x: x.mul(scale).trunc(),
-        y: map.transform(y).trunc(),
     }
 }

@@ -1,24 +1,17 @@
 // A path call on a map and a pen alone, which is what a run of calls repeats.
-use crate::hints::place;
 use fixed::Fixed;
 use hintmap::HintMap;
+use pen::Path;
 use pen::Pen;
 use pen::Point;
 use pen::Stroke;
 use pen::put;
 ghost use mathlib.Core.Path.{_≡_};
+ghost use Rattle.hints.specs.Hints.{devicePoint};
 ghost use Rattle.hints.specs.Path.{strokeBy, Drew};
 
-// What a call asks of the pen.
-pub enum Path {
-    Move(Point),
-    Line(Point),
-    Curve(Point, Point, Point),
-    Finish,
-}
-
 // How a call that writes records ended: with so many words, or with too little room.
-pub enum Answer {
+pub enum CallAnswer {
     Wrote(usize),
     NoRoom,
 }
@@ -26,7 +19,19 @@ pub enum Answer {
 // What is left of the pen, and how the call ended.
 pub struct Drawn {
     pub pen: Pen,
-    pub answer: Answer,
+    pub answer: CallAnswer,
+}
+
+// Ports `hint` and `scale`: a character point on the device.
+fn place(map: HintMap, scale: Fixed, at: Point) -> Point
+    ensures { λ r. ⌜ r ≡ devicePoint map scale at ⌝ }
+{
+    let x = at.x;
+    let y = at.y;
+    Point {
+        x: x.mul(scale).trunc(),
+        y: map.transform(y).trunc(),
+    }
 }
 
 // The stroke of a call, its points carried by a map.
@@ -55,11 +60,11 @@ pub fn draw(map: HintMap, scale: Fixed, pen: Pen, path: Path, out: &mut [i32]) -
     if put(out, records) {
         return Drawn {
             pen: next,
-            answer: Answer::Wrote(records.count),
+            answer: CallAnswer::Wrote(records.count),
         };
     }
     Drawn {
         pen,
-        answer: Answer::NoRoom,
+        answer: CallAnswer::NoRoom,
     }
 }

@@ -2,8 +2,10 @@
 mod records;
 mod strokes;
 
+pub use records::MAX_WORDS;
 pub use records::Records;
 pub use records::put;
+pub use strokes::Path;
 pub use strokes::Pen;
 pub use strokes::Point;
 pub use strokes::Start;

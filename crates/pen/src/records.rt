@@ -5,9 +5,12 @@ ghost use mathlib.Core.Path.{_≡_};
 ghost use Prim.Native.Nat.{_+_, _<_};
 ghost use Rattle.pen.specs.Records.{noRecords, pushed, pushedPoint, Put};
 
-// Up to ten words, and how many of them count.
+// The most words that a call writes: a line that waited, three, and a curve, seven.
+pub const MAX_WORDS: usize = 10;
+
+// The words of one call, and how many of them count.
 pub struct Records {
-    pub words: [i32; 10],
+    pub words: [i32; MAX_WORDS],
     pub count: usize,
 }
 
@@ -16,7 +19,7 @@ impl Records {
         ensures { λ r. ⌜ r ≡ noRecords ⌝ }
     {
         Records {
-            words: [0i32; 10],
+            words: [0i32; MAX_WORDS],
             count: 0,
         }
     }
@@ -46,7 +49,7 @@ impl Records {
 pub fn put(out: &mut [i32], records: Records) -> bool
     ensures { λ r. ⌜ Put (now (out .entry)) records r (now (out .exit)) ⌝ }
 {
-    let n = least(records.count, 10);
+    let n = least(records.count, MAX_WORDS);
     if out.len() < n {
         return false;
     }

@@ -5,9 +5,28 @@ ghost use mathlib.Core.Path.{_≡_};
 ghost use Rattle.pen.specs.Records.{emitted};
 ghost use Rattle.pen.specs.Strokes.{samePoint, newPen, closingWords, flushWords, moveOf, lineOf, curveOf, finishOf};
 
+// The kinds of records.
+const MOVE: i32 = 1;
+
+const LINE: i32 = 2;
+
+const CURVE: i32 = 3;
+
+const CLOSE: i32 = 4;
+
+const FINISH: i32 = 5;
+
 pub struct Point {
     pub x: Fixed,
     pub y: Fixed,
+}
+
+// What a call asks of the pen.
+pub enum Path {
+    Move(Point),
+    Line(Point),
+    Curve(Point, Point, Point),
+    Finish,
 }
 
 // The start of the open path, in character space.
@@ -67,10 +86,10 @@ impl Pen {
         };
         if let Waiting::Line(at, _) = waiting {
             if at.same(from) {
-                return Records::none().push(4);
+                return Records::none().push(CLOSE);
             }
         }
-        self.flushing().push(4)
+        self.flushing().push(CLOSE)
     }
 
     // Ports `flush_pending_line`.
@@ -79,7 +98,7 @@ impl Pen {
     {
         let waiting = self.waiting;
         if let Waiting::Line(_, device) = waiting {
-            return Records::none().push(2).point(device);
+            return Records::none().push(LINE).point(device);
         }
         Records::none()
     }
@@ -92,7 +111,7 @@ impl Pen {
             start: Start::At(at),
             waiting: Waiting::Absent,
         };
-        let records = self.closing().push(1).point(device);
+        let records = self.closing().push(MOVE).point(device);
         Stroke { pen, records }
     }
 
@@ -119,7 +138,7 @@ impl Pen {
             waiting: Waiting::Absent,
         };
         let records = self.flushing()
-            .push(3)
+            .push(CURVE)
             .point(first)
             .point(second)
             .point(end);
@@ -131,7 +150,7 @@ impl Pen {
         ensures { λ r. ⌜ r ≡ finishOf self ⌝ }
     {
         let pen = Pen::new();
-        let records = self.closing().push(5);
+        let records = self.closing().push(FINISH);
         Stroke { pen, records }
     }
 }

@@ -9,10 +9,10 @@ use lib.IntN.{ℤ}
 use lib.ListN.{length, length-append}
 use borrow.Author.Tests.{leb-true}
 use Rattle.zones.specs.declared.state.HintState.{HintState}
-use Rattle.drawing.specs.declared.calls.Drawing.{Drawing}
-use Rattle.drawing.specs.Calls.{Call, stem, hintMask, counterMask, clear, close, draw, hintsOf, wordsFor, nextOf}
+use Rattle.hints.specs.declared.drawing.Drawing.{Drawing}
+use Rattle.hints.specs.Calls.{Call, stem, hintMask, counterMask, clear, close, draw, hintsOf, wordsFor, nextOf}
 use Rattle.hints.proofs.Steps.{words-short}
-use Rattle.commands.specs.Commands.{Placed}
+use Rattle.commands.specs.Commands.{CommandAt}
 use Rattle.run.specs.Room.{Step, Fitted, fitBy, fitted}
 use Rattle.run.specs.Run.{Asked, callsOf, stepsOf}
 
@@ -53,7 +53,7 @@ ten-each st d (c ∷ cs) room =
     by false h r k = omega arith
 
 -- commands are as many calls
-pub calls-many : (s : List ℕ) (from : ℕ) (cs : List Placed) → length (callsOf s from cs) ≡ length cs
+pub calls-many : (s : List ℕ) (from : ℕ) (cs : List CommandAt) → length (callsOf s from cs) ≡ length cs
 unfolding callsOf
 calls-many s from [] = refl
 calls-many s from (c ∷ cs) = ap suc (calls-many s from cs)

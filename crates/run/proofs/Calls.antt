@@ -13,13 +13,13 @@ use Rattle.pen.specs.declared.strokes.Pen.{Pen}
 use Rattle.pen.specs.declared.strokes.Stroke.{Stroke}
 use Rattle.pen.specs.Records.{wordsOf, fits}
 use Rattle.hints.specs.declared.hints.Hints.{Hints}
-use Rattle.hints.specs.declared.path.Path.{Path}
+use Rattle.pen.specs.declared.strokes.Path.{Path}
 use Rattle.hints.specs.declared.path.Drawn.{Drawn}
 use Rattle.hints.specs.Hints.{readyOf}
 use Rattle.hints.specs.Path.{hasPoint, strokeBy}
 use Rattle.hints.proofs.Steps.{ready-idle, ready-twice, DrewWords, DrewNothing}
-use Rattle.drawing.specs.declared.calls.Drawing.{Drawing}
-use Rattle.drawing.specs.Calls.{Call, draw, readyFor, hintsOf, still, strokeOf}
+use Rattle.hints.specs.declared.drawing.Drawing.{Drawing}
+use Rattle.hints.specs.Calls.{Call, draw, readyFor, hintsOf, still, strokeOf}
 use Rattle.words.specs.declared.answer.Answer.the-variants.{Ok, NoRoom}
 use Rattle.run.specs.Room.{Step}
 use Rattle.run.specs.Run.{Asked, stepsOf, wantsMap}

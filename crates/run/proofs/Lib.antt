@@ -1,5 +1,4 @@
 pub mod Filling
-pub mod Counting
 pub mod Calls
 pub mod Turns
 pub mod Bounds

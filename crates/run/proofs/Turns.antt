@@ -10,12 +10,12 @@ use Rattle.zones.specs.declared.state.HintState.{HintState}
 use Rattle.pen.specs.declared.strokes.Pen.{Pen}
 use Rattle.pen.specs.Strokes.{newPen}
 use Rattle.hints.specs.declared.hints.Hints.{Hints}
-use Rattle.hints.specs.declared.path.Path.{Path}
+use Rattle.pen.specs.declared.strokes.Path.{Path}
 use Rattle.hints.specs.declared.path.Drawn.{Drawn}
 use Rattle.hints.specs.Hints.{newHints, readyOf}
 use Rattle.hints.specs.Path.{hasPoint, strokeBy}
-use Rattle.drawing.specs.Calls.{hintsOf, still, strokeOf}
-use Rattle.drawing.specs.Open.{newDrawing}
+use Rattle.hints.specs.Calls.{hintsOf, still, strokeOf}
+use Rattle.hints.specs.Calls.{newDrawing}
 use Rattle.hints.proofs.Steps.{DrewWords, DrewNothing}
 use Rattle.words.specs.declared.answer.Answer.{Answer}
 use Rattle.words.specs.declared.answer.Answer.the-variants.{Ok, NoRoom}
@@ -26,7 +26,7 @@ use Rattle.commands.specs.declared.reading.Marking.{Marking}
 use Rattle.commands.specs.declared.reading.Marking.the-variants.{Bad, Stem, Mask, Counter, Clear, Close}
 use Rattle.commands.specs.declared.reading.Command.{Command}
 use Rattle.commands.specs.declared.reading.Command.the-variants.{Mark, Draw}
-use Rattle.commands.specs.Commands.{Placed, readAt, nextAt, commandsFrom, commandsOf}
+use Rattle.commands.specs.Commands.{CommandAt, readAt, nextAt, commandsFrom, commandsOf}
 use Rattle.commands.specs.Faults.{hasBadMask, commandRows}
 use Rattle.commands.proofs.Laws.{first as first-command, none, from-start, faultless, mask-inside}
 use Rattle.run.specs.Room.{Step}
@@ -64,7 +64,7 @@ close-idle st h s from Close e = refl
 -- ---- how a run of a script's commands stands
 module _ (st : HintState) (s part : List ℕ) (first n from : ℕ) where
   -- the commands from word at on, as calls
-  abbrev commandsAt : ℕ → List Placed
+  abbrev commandsAt : ℕ → List CommandAt
   commandsAt at = commandsFrom (n - at) first (rawAt part) n at
 
   abbrev callsAt : ℕ → List Asked
@@ -87,7 +87,7 @@ module _ (st : HintState) (s part : List ℕ) (first n from : ℕ) where
       record {
         stands =
             record {
-              along = following (ap (λ (l : List Placed). stepsOf st (newDrawing (st .scale)) (callsOf s from l)) e) (begun allSteps out);
+              along = following (ap (λ (l : List CommandAt). stepsOf st (newDrawing (st .scale)) (callsOf s from l)) e) (begun allSteps out);
             };
         bytes = r .bytes;
         inside = r .inside;

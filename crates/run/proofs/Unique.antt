@@ -1,5 +1,5 @@
--- Any two outcomes that meet the contract of a public function are equal, over that contract as the toolchain reads it: the
--- count, and of `run` the result and every word of the output. Assumes nothing.
+-- Any two outcomes that meet the contract of `run` are equal, over that contract as the toolchain reads it: the result and every
+-- word of the output. Assumes nothing.
 use mathlib.Core.Path.{_≡_, sym, ap, _∙_}
 use Prim.Native.Nat.{ℕ}
 use borrow.Fn.Kinds.{endedOf}
@@ -10,16 +10,9 @@ use denote.Ref.{now}
 use Rattle.words.specs.declared.answer.Answer.{Answer}
 use Rattle.words.proofs.Answers.{says-is}
 use Rattle.run.specs.declared.running.Ran.{Ran}
-use Rattle.run.proofs.count.count_records as count-records
-use Rattle.run.proofs.count.count_records.Kinds as count-records-kinds
-use Rattle.run.proofs.count.count_records.Reads as count-records-reads
 use Rattle.run.proofs.running.run as run
 use Rattle.run.proofs.running.run.Kinds as run-kinds
 use Rattle.run.proofs.running.run.Reads as run-reads
-
-module _ (κs : Lfts 1) (a : ArgsD count-records.signature κs) (r r′ : ResD count-records.signature κs) (x x′ : AtExit (endedOf 1 count-records-kinds.ps count-records-kinds.r) κs) where
-  pub count-records-unique : count-records-reads.Post κs a r x → count-records-reads.Post κs a r′ x′ → r ≡ r′
-  count-records-unique p q = p ∙ sym q
 
 ran : {a b : Ran} → a .answer ≡ b .answer → a .words ≡ b .words → a ≡ b
 ran {a} {b} e w = ap (λ (x : Answer). record { answer = x; words = a .words }) e ∙ ap (λ (k : ℕ). record { answer = b .answer; words = k }) w

@@ -9,11 +9,11 @@ use Rattle.stems.specs.declared.mask.HintMask.{HintMask}
 use Rattle.stems.specs.Mask.{maskOf}
 use Rattle.zones.specs.declared.state.HintState.{HintState}
 use Rattle.pen.specs.Records.{written}
-use Rattle.hints.specs.declared.path.Path.{Path}
-use Rattle.drawing.specs.declared.calls.Drawing.{Drawing}
+use Rattle.pen.specs.declared.strokes.Path.{Path}
+use Rattle.hints.specs.declared.drawing.Drawing.{Drawing}
 use Rattle.hints.specs.Path.{hasPoint}
-use Rattle.drawing.specs.Calls.{Call, stem, hintMask, counterMask, clear, close, draw, nextOf, wordsFor}
-use Rattle.drawing.specs.Open.{newDrawing}
+use Rattle.hints.specs.Calls.{Call, stem, hintMask, counterMask, clear, close, draw, nextOf, wordsFor}
+use Rattle.hints.specs.Calls.{newDrawing}
 use Rattle.words.specs.declared.answer.Answer.the-variants.{Ok}
 use Rattle.words.specs.Words.{rawAt}
 use Rattle.words.specs.Answers.{Says, firstOf}
@@ -21,7 +21,7 @@ use Rattle.commands.specs.declared.reading.Marking.{Marking}
 use Rattle.commands.specs.declared.reading.Marking.the-variants.{Bad, Stem, Mask, Counter, Clear, Close}
 use Rattle.commands.specs.declared.reading.Command.{Command}
 use Rattle.commands.specs.declared.reading.Command.the-variants.{Mark, Draw}
-use Rattle.commands.specs.Commands.{Placed, commandsOf}
+use Rattle.commands.specs.Commands.{CommandAt, commandsOf}
 use Rattle.commands.specs.Faults.{commandRows}
 use Rattle.run.specs.declared.running.Ran.{Ran}
 use Rattle.run.specs.Room.{Step, Fitted, fitted}
@@ -50,7 +50,7 @@ pub record Asked : Type 0 where
   pub call : Call
 
 -- the calls that commands are
-unfoldable pub callsOf : List ℕ → ℕ → List Placed → List Asked
+unfoldable pub callsOf : List ℕ → ℕ → List CommandAt → List Asked
 callsOf s from [] = []
 callsOf s from (c ∷ cs) = record { place = c .place; call = callOf s from (c .command) } ∷ callsOf s from cs
 
@@ -61,19 +61,19 @@ stepsOf st d (c ∷ cs) = record { place = c .place; words = wordsFor st d (c .c
 
 -- ---- the run
 -- what a run answers, and the output that it leaves
-pub record Outcome : Type 0 where
+pub record Ending : Type 0 where
   pub ran : Ran
   pub left : List ℤ
 
-abbrev pub outcomeOf : Fitted → List ℤ → Outcome
-outcomeOf f out = record { ran = record { answer = f .said; words = length (f .words) }; left = written (f .words) out }
+abbrev pub endingOf : Fitted → List ℤ → Ending
+endingOf f out = record { ran = record { answer = f .said; words = length (f .words) }; left = written (f .words) out }
 
 -- calls over a new drawing, into all of an output
-unfoldable pub ranOf : HintState → List Asked → List ℤ → Outcome
-ranOf st cs out = outcomeOf (fitted (length out) (stepsOf st (newDrawing (st .scale)) cs)) out
+unfoldable pub ranOf : HintState → List Asked → List ℤ → Ending
+ranOf st cs out = endingOf (fitted (length out) (stepsOf st (newDrawing (st .scale)) cs)) out
 
 -- 01's number and place, the record words that were written, and the output
-pub record Ended (o : Outcome) (r : Ran) (left : List ℤ) : Type 0 where
+pub record Ended (o : Ending) (r : Ran) (left : List ℤ) : Type 0 where
   pub answer : Says (o .ran .answer) (r .answer)
   pub words : r .words ≡ o .ran .words
   pub memory : left ≡ o .left

@@ -6,7 +6,7 @@ use zones::HintState;
 ghost use mathlib.Core.Path.{_≡_};
 ghost use Prim.Native.Nat.{_+_, _≤_};
 ghost use lib.ListN.{length, take, drop};
-ghost use Rattle.drawing.specs.Calls.{hintsOf};
+ghost use Rattle.hints.specs.Calls.{hintsOf};
 ghost use Rattle.run.specs.Run.{maskAt, maskEnd, markCall};
 
 // The very bytes of the script that a mask command names.

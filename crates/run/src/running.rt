@@ -3,11 +3,12 @@ use crate::marks::marked;
 use commands::Command;
 use commands::Marking;
 use commands::read_command;
-use hints::Answer;
+use hints::CallAnswer;
 use hints::Hints;
-use hints::Path;
 use hints::draw;
+use pen::Path;
 use pen::Pen;
+use words::Answer;
 use zones::HintState;
 ghost use mathlib.Core.Path.{_≡_};
 ghost use Rattle.words.specs.Words.{rawAt};
@@ -16,7 +17,7 @@ ghost use Rattle.run.specs.Run.{callsOf, wantsMap, isClose, ranOf, Ended
 
 // How a run ended: the answer, and the record words that were written.
 pub struct Ran {
-    pub answer: words::Answer,
+    pub answer: Answer,
     pub words: usize,
 }
 
@@ -85,9 +86,9 @@ pub fn run(
                 }
                 let drawn = draw(hints.map, state.scale, pen, path, &mut out[next..]);
                 let answer = drawn.answer;
-                let Answer::Wrote(count) = answer else {
+                let CallAnswer::Wrote(count) = answer else {
                     return Ran {
-                        answer: words::Answer::NoRoom(first + at),
+                        answer: Answer::NoRoom(first + at),
                         words: next,
                     };
                 };
@@ -98,7 +99,7 @@ pub fn run(
         }
     }
     Ran {
-        answer: words::Answer::Ok,
+        answer: Answer::Ok,
         words: next,
     }
 }

@@ -1,3 +1,4 @@
+pub mod Counting
 pub mod Passed
 pub mod Results
 pub mod Unique

@@ -8,17 +8,17 @@ use lib.IntN.{ℤ}
 use lib.ListN.{length, drop, length-drop}
 use Rattle.fixed.specs.declared.Fixed.{Fixed}
 use Rattle.zones.specs.State.{emBox, stateBy, stateOf}
-use Rattle.drawing.specs.Open.{newDrawing}
+use Rattle.hints.specs.Calls.{newDrawing}
 use Rattle.words.specs.declared.answer.Answer.the-variants.{Ok}
 use Rattle.words.specs.Words.{rawAt, numberAt}
 use Rattle.words.specs.Answers.{firstOf}
 use Rattle.words.proofs.Answers.{both-ok}
 use Rattle.header.specs.Header.{headerRows}
-use Rattle.header.specs.Params.{paramRows, paramsOf, Whole}
+use Rattle.header.specs.Params.{paramRows, paramsOf, WholeParams}
 use Rattle.header.proofs.Fine.{Fine, fine, whole, header-refusing, params-refusing}
 use Rattle.commands.specs.Faults.{commandRows}
 use Rattle.run.specs.Room.{fitted}
-use Rattle.run.specs.Run.{stepsOf, outcomeOf, ranOf, Runnable}
+use Rattle.run.specs.Run.{stepsOf, endingOf, ranOf, Runnable}
 use Rattle.script.specs.Script.{commandsIn, callsIn, checkRows, zonesOf, stepsIn}
 
 pub record Passed (s : List ℕ) : Type 0 where
@@ -26,7 +26,7 @@ pub record Passed (s : List ℕ) : Type 0 where
   pub params : firstOf (paramRows (rawAt s)) ≡ Ok
   pub commands : firstOf (commandRows (rawAt s 7) (commandsIn s)) ≡ Ok
   pub fine : Fine s
-  pub whole : Whole s
+  pub whole : WholeParams s
 
 pub passed : (s : List ℕ) → firstOf (checkRows s) ≡ Ok → Passed s
 unfolding checkRows
@@ -60,6 +60,6 @@ runnable s p =
     }
 
 -- and their run is that of the script
-pub ran : (s : List ℕ) (out : List ℤ) → ranOf (zonesOf s) (callsIn s) out ≡ outcomeOf (fitted (length out) (stepsIn s)) out
+pub ran : (s : List ℕ) (out : List ℤ) → ranOf (zonesOf s) (callsIn s) out ≡ endingOf (fitted (length out) (stepsIn s)) out
 unfolding ranOf stepsIn
-ran s out = ap (λ (x : Fixed). outcomeOf (fitted (length out) (stepsOf (zonesOf s) (newDrawing x) (callsIn s))) out) (zones-scale s)
+ran s out = ap (λ (x : Fixed). endingOf (fitted (length out) (stepsOf (zonesOf s) (newDrawing x) (callsIn s))) out) (zones-scale s)

@@ -12,7 +12,7 @@ use borrow.Author.Tests.{lt-ltb, le-ltb, eq-eqb, ne-eqb}
 use Rattle.pen.specs.Records.{written}
 use Rattle.words.specs.declared.answer.Answer.{Answer}
 use Rattle.words.specs.declared.answer.Answer.the-variants.{NoRoom}
-use Rattle.drawing.specs.Open.{newDrawing}
+use Rattle.hints.specs.Calls.{newDrawing}
 use Rattle.words.specs.Words.{rawAt, numberAt}
 use Rattle.words.specs.Answers.{firstOf, numberOf, refuses}
 use Rattle.words.proofs.Answers.{says}

@@ -9,7 +9,7 @@ use lib.ListN.{length, take, drop}
 use Rattle.zones.specs.declared.state.HintState.{HintState}
 use Rattle.zones.specs.State.{stateOf}
 use Rattle.pen.specs.Records.{written}
-use Rattle.drawing.specs.Open.{newDrawing}
+use Rattle.hints.specs.Calls.{newDrawing}
 use Rattle.words.specs.declared.answer.Answer.{Answer}
 use Rattle.words.specs.declared.answer.Answer.the-variants.{NoRoom}
 use Rattle.words.specs.Words.{rawAt, numberAt}
@@ -17,15 +17,15 @@ use Rattle.words.specs.Rows.{Row}
 use Rattle.words.specs.Answers.{Says, firstOf, refuses}
 use Rattle.header.specs.Header.{headerRows}
 use Rattle.header.specs.Params.{paramRows, paramsOf}
-use Rattle.commands.specs.Commands.{Placed, commandsOf}
+use Rattle.commands.specs.Commands.{CommandAt, commandsOf}
 use Rattle.commands.specs.Faults.{commandRows}
-use Rattle.run.specs.Count.{recordsIn}
+use Rattle.script.specs.Count.{recordsIn}
 use Rattle.run.specs.Room.{Step, Fitted, fitted}
 use Rattle.run.specs.Run.{Asked, callsOf, stepsOf}
 
 -- ---- the tests
 -- the commands: as many words as word 5 says, from the offset in word 4 on
-abbrev pub commandsIn : List ℕ → List Placed
+abbrev pub commandsIn : List ℕ → List CommandAt
 commandsIn s = commandsOf (rawAt s 4) (rawAt (drop (4 * rawAt s 4) s)) (rawAt s 5)
 
 -- header, scale, counts, word 3 against the pairs, commands first to last

@@ -3,6 +3,7 @@ use commands::check_commands;
 use header::check_header;
 use header::check_params;
 use words::Answer;
+use words::layout;
 use words::natural;
 ghost use mathlib.Core.Path.{_≡_};
 ghost use Rattle.words.specs.Answers.{firstOf};
@@ -20,8 +21,8 @@ pub(crate) fn check(script: &[u8]) -> Answer
     if params.code() != 0 {
         return params;
     }
-    let first = natural(script, 4);
-    let count = natural(script, 5);
-    let bytes = natural(script, 7);
+    let first = natural(script, layout::COMMANDS_START);
+    let count = natural(script, layout::COMMANDS_COUNT);
+    let bytes = natural(script, layout::MASKS_COUNT);
     check_commands(script, first, count, bytes)
 }

@@ -1,5 +1,6 @@
 // A whole script: checked, then run into a lent output (01, "The script").
 mod checking;
+mod count;
 mod whole;
 
 pub use whole::run_script;

@@ -1,10 +1,11 @@
 // Checking and running a script.
 use crate::checking::check;
+use crate::count::count_records;
 use header::read_params;
 use run::Ran;
-use run::count_records;
 use run::run;
 use words::Answer;
+use words::layout;
 use words::natural;
 use words::number;
 use zones::HintState;
@@ -16,7 +17,7 @@ ghost use lib.ListN.{length};
 ghost use Rattle.pen.specs.Records.{written};
 ghost use Rattle.words.specs.declared.answer.Answer.the-variants.{Ok};
 ghost use Rattle.words.specs.Answers.{firstOf};
-ghost use Rattle.run.specs.Run.{outcomeOf, Ended};
+ghost use Rattle.run.specs.Run.{endingOf, Ended};
 ghost use Rattle.run.specs.Room.{fitted};
 ghost use Rattle.script.specs.Script.{checkRows, zonesOf, stepsIn, scriptOf, Scripted};
 
@@ -25,17 +26,17 @@ fn zones_of(script: &[u8]) -> HintState
     requires { ⌜ firstOf (checkRows (now script)) ≡ Ok ⌝ }
     ensures { λ r. ⌜ r ≡ zonesOf (now (script .entry)) ⌝ }
 {
-    HintState::new(read_params(script), number(script, 1))
+    HintState::new(read_params(script), number(script, layout::SCALE))
 }
 
 // The run of such a script, into the words behind the result's header.
 fn run_commands(script: &[u8], out: &mut [i32]) -> Ran
     requires { ⌜ firstOf (checkRows (now script)) ≡ Ok ⌝ }
-    ensures { λ r. ⌜ Ended (outcomeOf (fitted (length (now (out .entry))) (stepsIn (now (script .entry)))) (now (out .entry))) r (now (out .exit)) ⌝ }
+    ensures { λ r. ⌜ Ended (endingOf (fitted (length (now (out .entry))) (stepsIn (now (script .entry)))) (now (out .entry))) r (now (out .exit)) ⌝ }
 {
-    let first = natural(script, 4);
-    let count = natural(script, 5);
-    let masks = natural(script, 6);
+    let first = natural(script, layout::COMMANDS_START);
+    let count = natural(script, layout::COMMANDS_COUNT);
+    let masks = natural(script, layout::MASKS_START);
     let at = 4 * first;
     run(
         script,
@@ -68,7 +69,7 @@ pub fn run_script(script: &[u8], out: &mut [i32]) -> Answer
         return fault;
     }
     if out.len() < 4 {
-        return Answer::NoRoom(natural(script, 4));
+        return Answer::NoRoom(natural(script, layout::COMMANDS_START));
     }
     let ran = run_commands(script, &mut out[4..]);
     let answer = ran.answer;

@@ -3,12 +3,24 @@ use fixed::Fixed;
 ghost use mathlib.Core.Path.{_≡_};
 ghost use Rattle.stems.specs.Edge.{noHint, hintAt, isValid, isBottom, isTop, isPair, isPairTop, atDevice, lockedAt, shapeOf, edgeOf, setupOf};
 
+// The most stems of a glyph; there is room for as many edges in a map.
+pub const MAX_HINTS: usize = 96;
+
+// The number of the last of them, which is also the least length of a map that has no room for a pair.
+pub const LAST_HINT: usize = 95;
+
 pub struct StemHint {
     pub is_used: bool,
     pub min: Fixed,
     pub max: Fixed,
     pub ds_min: Fixed,
     pub ds_max: Fixed,
+}
+
+// The stems that are declared.
+pub struct Stems {
+    pub list: [StemHint; MAX_HINTS],
+    pub count: usize,
 }
 
 // What an edge is: no edge, the one edge of a ghost, or one of the two of a pair.
@@ -37,7 +49,8 @@ pub enum Shape {
     Pair(Fixed, Fixed),
 }
 
-// The widths by which a font declares a ghost, −21.0 and −20.0.
+// The widths by which a font declares a ghost, −21.0 and −20.0: one edge that is to be aligned by itself, as the top and the bottom
+// of a sans-serif I, and no stem between two.
 const GHOST_BOTTOM_WIDTH: Fixed = Fixed { bits: -0x15_0000 };
 
 const GHOST_TOP_WIDTH: Fixed = Fixed { bits: -0x14_0000 };

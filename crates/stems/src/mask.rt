@@ -1,10 +1,14 @@
 // Which stems are active: a bit for each, the most significant bit of the first byte for stem 0.
+use crate::edge::LAST_HINT;
 ghost use mathlib.Core.Path.{_≡_};
 ghost use Prim.Native.Nat.{_-_, _%_, _^_};
 ghost use Rattle.stems.specs.Mask.{allActive, maskOf, isActive, cleared, sameMask};
 
+// A bit for each of `MAX_HINTS` stems.
+pub const HINT_MASK_SIZE: usize = 12;
+
 pub struct HintMask {
-    pub bytes: [u8; 12],
+    pub bytes: [u8; HINT_MASK_SIZE],
 }
 
 // Ports `msb_mask`.
@@ -20,7 +24,9 @@ impl HintMask {
     pub fn all() -> HintMask
         ensures { λ r. ⌜ r ≡ allActive ⌝ }
     {
-        HintMask { bytes: [255; 12] }
+        HintMask {
+            bytes: [255; HINT_MASK_SIZE],
+        }
     }
 
     // Ports `HintMask::new`; over twelve bytes, where that returns `None`, all stems are active.
@@ -28,10 +34,10 @@ impl HintMask {
         ensures { λ r. ⌜ r ≡ maskOf (now (bytes .entry)) ⌝ }
     {
         let n = bytes.len();
-        if 12 < n {
+        if HINT_MASK_SIZE < n {
             return HintMask::all();
         }
-        let mut copy = [0u8; 12];
+        let mut copy = [0u8; HINT_MASK_SIZE];
         for i in 0..n {
             copy[i] = bytes[i];
         }
@@ -42,7 +48,7 @@ impl HintMask {
     pub fn get(self, bit: usize) -> bool
         ensures { λ r. ⌜ r ≡ isActive self bit ⌝ }
     {
-        if 95 < bit {
+        if LAST_HINT < bit {
             return false;
         }
         let byte = self.bytes[bit / 8];
@@ -66,7 +72,7 @@ impl HintMask {
     pub fn same(self, other: HintMask) -> bool
         ensures { λ r. ⌜ r ≡ sameMask self other ⌝ }
     {
-        for i in 0..12 {
+        for i in 0..HINT_MASK_SIZE {
             if self.bytes[i] != other.bytes[i] {
                 return false;
             }

@@ -6,7 +6,7 @@ use lib.Dec.{leb}
 use lib.ListN.{getD}
 use lib.IntN.{ℤ}
 use Rattle.fixed.specs.declared.Fixed.{Fixed}
-use Rattle.fixed.specs.Whole.{signed}
+use Rattle.fixed.specs.Integers.{signed}
 use Rattle.fixed.specs.Fixed.{fromBits}
 
 -- word i as a number from 0 to 2^32 − 1

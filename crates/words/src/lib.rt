@@ -1,5 +1,6 @@
 // The words of a script (01, "The script"), and the answers that a script can get.
 mod answer;
+pub mod layout;
 mod read;
 
 pub use answer::Answer;

@@ -40,8 +40,8 @@ topGoal st z e =
     (roundF (e .«ds_coord»)))
 
 -- the move of the held edge
-unfoldable pub moveOf : HintState → BlueZone → Hint → Hint → Fixed
-moveOf st z b t =
+unfoldable pub captureMove : HintState → BlueZone → Hint → Hint → Fixed
+captureMove st z b t =
     cond (z .«is_bottom») (subF (bottomGoal st z b) (b .«ds_coord»)) (subF (topGoal st z t) (t .«ds_coord»))
 
 -- a valid edge moved and locked
@@ -51,7 +51,7 @@ lifted e by = cond (isValid e) (lockedAt e (addF (e .«ds_coord») by)) e
 -- both valid edges move alike
 abbrev pub capturedBy : Held → HintState → Hint → Hint → Captured
 capturedBy Free st b t = record { captured = false; bottom = b; top = t }
-capturedBy (By z) st b t = record { captured = true; bottom = lifted b (moveOf st z b t); top = lifted t (moveOf st z b t) }
+capturedBy (By z) st b t = record { captured = true; bottom = lifted b (captureMove st z b t); top = lifted t (captureMove st z b t) }
 
 unfoldable pub captureOf : HintState → Hint → Hint → Captured
 captureOf st b t = capturedBy (firstHolding (st .«blue_fuzz») b t (take (st .«zone_count») (st .zones))) st b t

@@ -6,15 +6,21 @@ ghost use Prim.Native.Nat.{_+_, _<_, _≤_};
 ghost use lib.ListN.{take, getD};
 ghost use Rattle.zones.specs.Zones.{heightOf, whollyBelow, whollyAbove, noBlue, noZone, zoneOf, noZones, pushed, keptIn, readIn, eachIn, familyEdge, familyFrom, nearer, nearestOf, movedFlat, deviceFlat};
 
+// How many pairs a list has at most, how many of the other blues count, and how many zones that makes.
+pub const MAX_BLUES: usize = 7;
+
+pub const MAX_OTHER_BLUES: usize = 5;
+
+pub const MAX_BLUE_ZONES: usize = 12;
+
 // A pair of character heights.
 pub struct Blue {
     pub bottom: Fixed,
     pub top: Fixed,
 }
 
-// Up to seven pairs.
 pub struct Blues {
-    pub pairs: [Blue; 7],
+    pub pairs: [Blue; MAX_BLUES],
     pub count: usize,
 }
 
@@ -28,7 +34,7 @@ pub struct BlueZone {
 
 // Zones as they are kept, with the greatest of their heights, or 0.
 pub struct Zones {
-    pub list: [BlueZone; 12],
+    pub list: [BlueZone; MAX_BLUE_ZONES],
     pub count: usize,
     pub greatest: Fixed,
 }
@@ -146,7 +152,7 @@ impl Zones {
     {
         let none = BlueZone::none();
         Zones {
-            list: [none; 12],
+            list: [none; MAX_BLUE_ZONES],
             count: 0,
             greatest: Fixed::ZERO,
         }
@@ -249,7 +255,7 @@ impl Blues {
     pub(crate) fn nearest(self, flat: Fixed, limit: Fixed, bottom: bool) -> Nearest
         ensures { λ r. ⌜ r ≡ nearestOf bottom self flat limit ⌝ }
     {
-        let count = least(self.count, 7);
+        let count = least(self.count, MAX_BLUES);
         let mut near = Nearest {
             edge: flat,
             diff: Fixed::MAX,

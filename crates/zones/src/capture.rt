@@ -1,12 +1,13 @@
 // The capture of a stem's edges by the zones.
 use crate::blues::BlueZone;
+use crate::blues::MAX_BLUE_ZONES;
 use crate::state::HintState;
 use fixed::Fixed;
 use fixed::least;
 use stems::Hint;
 ghost use mathlib.Core.Path.{_≡_};
 ghost use lib.ListN.{take};
-ghost use Rattle.zones.specs.Capture.{within, holds, firstHolding, bottomGoal, topGoal, moveOf, lifted, captureOf};
+ghost use Rattle.zones.specs.Capture.{within, holds, firstHolding, bottomGoal, topGoal, captureMove, lifted, captureOf};
 
 // The zone that holds one of the edges, if there is one.
 pub enum Held {
@@ -62,7 +63,7 @@ impl HintState {
     fn holder(self, bottom: Hint, top: Hint) -> Held
         ensures { λ r. ⌜ r ≡ firstHolding (self .«blue_fuzz») bottom top (take (self .«zone_count») (self .zones)) ⌝ }
     {
-        let count = least(self.zone_count, 12);
+        let count = least(self.zone_count, MAX_BLUE_ZONES);
         let fuzz = self.blue_fuzz;
         let mut i: usize = 0;
         while i < count {
@@ -75,7 +76,7 @@ impl HintState {
         Held::Free
     }
 
-    // From `capture`: where a bottom edge goes in a bottom zone.
+    // From `capture`: where a bottom edge goes in a bottom zone. An overshoot that is kept and deep enough shows by a whole pixel at least.
     fn bottom_goal(self, zone: BlueZone, edge: Hint) -> Fixed
         ensures { λ r. ⌜ r ≡ bottomGoal self zone edge ⌝ }
     {
@@ -91,7 +92,7 @@ impl HintState {
         rounded
     }
 
-    // From `capture`: where a top edge goes in a top zone.
+    // From `capture`: where a top edge goes in a top zone, likewise.
     fn top_goal(self, zone: BlueZone, edge: Hint) -> Fixed
         ensures { λ r. ⌜ r ≡ topGoal self zone edge ⌝ }
     {
@@ -108,7 +109,7 @@ impl HintState {
     }
 
     fn move_by(self, zone: BlueZone, bottom: Hint, top: Hint) -> Fixed
-        ensures { λ r. ⌜ r ≡ moveOf self zone bottom top ⌝ }
+        ensures { λ r. ⌜ r ≡ captureMove self zone bottom top ⌝ }
     {
         if zone.is_bottom {
             return self.bottom_goal(zone, bottom).sub(bottom.ds_coord);

@@ -1,6 +1,9 @@
 // What a font's parameters and a scale make: the zones on the device and how overshoot is treated.
 use crate::blues::BlueZone;
 use crate::blues::Blues;
+use crate::blues::MAX_BLUE_ZONES;
+use crate::blues::MAX_BLUES;
+use crate::blues::MAX_OTHER_BLUES;
 use crate::blues::Zones;
 use fixed::Fixed;
 use fixed::least;
@@ -30,14 +33,20 @@ pub struct HintState {
     pub suppress_overshoot: bool,
     pub do_em_box_hints: bool,
     pub boost: Fixed,
-    pub zones: [BlueZone; 12],
+    pub zones: [BlueZone; MAX_BLUE_ZONES],
     pub zone_count: usize,
 }
 
-// The em box, from −120.0 to 880.0.
+// The em box, from −120.0 to 880.0: the ascent and descent that a font for ideographs has unless it says otherwise.
 const ICF_BOTTOM: Fixed = Fixed { bits: -0x78_0000 };
 
 const ICF_TOP: Fixed = Fixed { bits: 0x370_0000 };
+
+// The boost at scale 0, 0.6 of a pixel, and the most that it may be. It stays under a half, or the baseline, which it pushes down,
+// would round to a pixel below 0.
+const FULL_BOOST: Fixed = Fixed { bits: 39322 };
+
+const MOST_BOOST: Fixed = Fixed { bits: 0x7fff };
 
 impl HintParams {
     // From `build_zones`: the glyph is fitted to the em box and not to zones.
@@ -68,9 +77,9 @@ impl HintParams {
     {
         let blues = self.blues;
         let others = self.other_blues;
-        let zones = Zones::none().read(blues, least(blues.count, 7), false);
-        if 5 < others.count {
-            return zones.read(others, 5, true);
+        let zones = Zones::none().read(blues, least(blues.count, MAX_BLUES), false);
+        if MAX_OTHER_BLUES < others.count {
+            return zones.read(others, MAX_OTHER_BLUES, true);
         }
         zones.read(others, others.count, true)
     }
@@ -96,9 +105,9 @@ fn boost_at(scale: Fixed, blue_scale: Fixed) -> Fixed
     ensures { λ r. ⌜ r ≡ boostOf scale «blue_scale» ⌝ }
 {
     if scale.less(blue_scale) {
-        let full = Fixed { bits: 39322 };
-        return full.sub(full.mul_div(scale, blue_scale))
-            .min(Fixed { bits: 0x7fff });
+        return FULL_BOOST
+            .sub(FULL_BOOST.mul_div(scale, blue_scale))
+            .min(MOST_BOOST);
     }
     Fixed::ZERO
 }
@@ -122,7 +131,7 @@ impl HintState {
                 suppress_overshoot: false,
                 do_em_box_hints: true,
                 boost: Fixed::ZERO,
-                zones: [none; 12],
+                zones: [none; MAX_BLUE_ZONES],
                 zone_count: 0,
             };
         }

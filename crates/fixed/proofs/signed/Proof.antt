@@ -5,7 +5,7 @@ use native.Mathlib.Omega.{arith}
 use mir.Syntax.{w32}
 use mir.Val.{toZ}
 use borrow.Author.Needs.{needs}
-use Rattle.fixed.specs.Whole.{signed}
+use Rattle.fixed.specs.Integers.{signed}
 use Rattle.fixed.proofs.signed.Statement.{statement}
 use Rattle.fixed.proofs.signed.Tie as tie
 

@@ -7,7 +7,7 @@ use borrow.Author.Needs.{needs}
 use mir.Syntax.{w32, w64}
 use mir.Val.{SFits, toZ, ofZ}
 use mir.Facts.{toZ-pos}
-use Rattle.fixed.specs.Whole.{lowBits, signed, wrap32}
+use Rattle.fixed.specs.Integers.{lowBits, signed, wrap32}
 use Rattle.fixed.proofs.Bits.{masked, low-lt, read}
 use Rattle.fixed.proofs.wrap.Statement.{statement}
 use Rattle.fixed.proofs.wrap.Tie as tie

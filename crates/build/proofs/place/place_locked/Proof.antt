@@ -83,11 +83,11 @@ mul-stem c = search needs
 element-copy-out-stem : tie.Need-element-copy-out-stem Inv-loop μ-loop
 element-copy-out-stem c = search needs
 
-cast-ready : tie.Need-cast-ready Inv-loop μ-loop
-cast-ready c = search needs
+cast-prepared : tie.Need-cast-prepared Inv-loop μ-loop
+cast-prepared c = search needs
 
-ready-requires : tie.Need-ready-requires Inv-loop μ-loop
-ready-requires c κs = search needs
+prepared-requires : tie.Need-prepared-requires Inv-loop μ-loop
+prepared-requires c κs = search needs
 
 add-i-2 : tie.Need-add-i-2 Inv-loop μ-loop
 add-i-2 c = search needs
@@ -101,7 +101,7 @@ loop-again-2 c =
     let r = c .before .before in
     let e = r .before .before in
     let g = e .before in
-    again (g .before) _ (simp (sym (g .get .ensures), not-false (g .get .result) (e .if1 .left), sym (r .ready .ensures), not-true (r .ready .result .captured) (c .if2 .taken)))
+    again (g .before) _ (simp (sym (g .get .ensures), not-false (g .get .result) (e .if1 .left), sym (r .prepared .ensures), not-true (r .prepared .result .captured) (c .if2 .taken)))
 
 choose-requires : tie.Need-choose-requires Inv-loop μ-loop
 choose-requires c κs = search needs
@@ -126,7 +126,7 @@ loop-again-3 c =
     let r = f .before .before in
     let e = r .before .before in
     let g = e .before in
-    again (g .before) _ (simp (sym (g .get .ensures), not-false (g .get .result) (e .if1 .left), sym (r .ready .ensures), not-false (r .ready .result .captured) (f .if2 .left), sym (o .choose .ensures), sym (c .before .insert .ensures), sym (c .clear .ensures)))
+    again (g .before) _ (simp (sym (g .get .ensures), not-false (g .get .result) (e .if1 .left), sym (r .prepared .ensures), not-false (r .prepared .result .captured) (f .if2 .left), sym (o .choose .ensures), sym (c .before .insert .ensures), sym (c .clear .ensures)))
 
 returns : tie.Need-returns Inv-loop μ-loop
 returns c =
@@ -149,8 +149,8 @@ place-locked-spec =
     loop-again
     mul-stem
     element-copy-out-stem
-    cast-ready
-    ready-requires
+    cast-prepared
+    prepared-requires
     add-i-2
     loop-less-2
     loop-again-2

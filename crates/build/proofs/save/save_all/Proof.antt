@@ -10,7 +10,7 @@ use lib.Seq.{length-take-le, getD-take}
 use Rattle.stems.specs.declared.edge.Hint.{Hint}
 use Rattle.stems.specs.Edge.{noHint}
 use Rattle.hintmap.specs.Map.{view}
-use Rattle.build.specs.declared.place.Stems.{Stems}
+use Rattle.stems.specs.declared.edge.Stems.{Stems}
 use Rattle.build.specs.Build.{savedIn, savedAll}
 use Rattle.build.proofs.Saved.{save-more, save-ends, save-synthetic, save-stem, save-past, in-length}
 use Rattle.build.proofs.save.save_all.Statement.{statement}

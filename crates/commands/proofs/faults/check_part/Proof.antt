@@ -9,7 +9,7 @@ use Rattle.words.specs.Words.{rawAt}
 use Rattle.words.specs.Rows.{firstOr}
 use Rattle.words.specs.Answers.{firstOf}
 use Rattle.commands.specs.declared.reading.Read.{Read}
-use Rattle.commands.specs.Commands.{readAt, nextAt, Placed, commandsFrom, commandsOf}
+use Rattle.commands.specs.Commands.{readAt, nextAt, CommandAt, commandsFrom, commandsOf}
 use Rattle.commands.specs.Faults.{faultRows, commandRows}
 use Rattle.commands.proofs.Laws.{next-is, from-start, rows-none, fault-here, fault-behind}
 use Rattle.commands.proofs.faults.check_part.Statement.{statement}
@@ -35,7 +35,7 @@ found c = rw (ap (λ (r : Read). r .command) (c .before .read-command .ensures))
 loop-holds : tie.Need-loop-holds Inv-loop μ-loop
 loop-holds c =
     let a = c .before .args in
-    ap (λ (l : List Placed). firstOf (commandRows (a .bytes) l)) (from-start (a .first) (rawAt (a .part .now)) (a .n))
+    ap (λ (l : List CommandAt). firstOf (commandRows (a .bytes) l)) (from-start (a .first) (rawAt (a .part .now)) (a .n))
 
 read-command-requires : tie.Need-read-command-requires Inv-loop μ-loop
 read-command-requires c κs = omega arith

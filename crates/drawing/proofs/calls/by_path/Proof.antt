@@ -3,8 +3,8 @@ use mathlib.Core.Path.{ap, _∙_}
 use borrow.Author.Needs.{needs}
 use Rattle.hints.specs.declared.hints.Hints.{Hints}
 use Rattle.hints.specs.Path.{strokeBy}
-use Rattle.drawing.specs.Calls.{draw}
-use Rattle.drawing.proofs.Outcome.{drawn-called, point-hints, valid-called}
+use Rattle.hints.specs.Calls.{draw}
+use Rattle.drawing.proofs.Settled.{drawn-called, point-hints, valid-called}
 use Rattle.drawing.proofs.calls.by_path.Statement.{statement}
 use Rattle.drawing.proofs.calls.by_path.Tie as tie
 

@@ -1,9 +1,9 @@
 -- `finish` meets its contract: what `draw` drew is that call, by whatever map. Assumes nothing.
 use mathlib.Core.Path.{refl}
 use borrow.Author.Needs.{needs}
-use Rattle.hints.specs.declared.path.Path.the-variants.{Finish}
-use Rattle.drawing.specs.Calls.{draw}
-use Rattle.drawing.proofs.Outcome.{drawn-called}
+use Rattle.pen.specs.declared.strokes.Path.the-variants.{Finish}
+use Rattle.hints.specs.Calls.{draw}
+use Rattle.drawing.proofs.Settled.{drawn-called}
 use Rattle.drawing.proofs.calls.finish.Statement.{statement}
 use Rattle.drawing.proofs.calls.finish.Tie as tie
 

@@ -4,7 +4,7 @@ use mir.Syntax.{w32}
 use mir.Val.{SFits}
 use mir.Facts.{toZ-ofZ}
 use borrow.Author.Needs.{needs}
-use Rattle.fixed.specs.Whole.{signed, wrap32}
+use Rattle.fixed.specs.Integers.{signed, wrap32}
 use Rattle.fixed.specs.Fixed.{fromBits, addF}
 use Rattle.fixed.proofs.Ints.{add-fits}
 use Rattle.fixed.proofs.Bits.{wide, read, low-add}

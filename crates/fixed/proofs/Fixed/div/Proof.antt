@@ -7,7 +7,7 @@ use lib.Signed.{ltZ}
 use mir.Syntax.{w32}
 use mir.Val.{SFits, ofZ}
 use mir.Facts.{toZ-ofZ}
-use Rattle.fixed.specs.Whole.{lowBits, signed, wrap32}
+use Rattle.fixed.specs.Integers.{lowBits, signed, wrap32}
 use Rattle.fixed.specs.Fixed.{fromBits, wrapF, negF, divF}
 use Rattle.fixed.proofs.Bits.{read}
 use Rattle.fixed.proofs.Nearest.{size-below, size-above, over-zero, over-zero-below, over-zero-above, over-below, over-above}

@@ -5,7 +5,7 @@ use mir.Syntax.{w32}
 use mir.Val.{SFits}
 use mir.Facts.{toZ-ofZ}
 use borrow.Author.Needs.{needs}
-use Rattle.fixed.specs.Whole.{signed, wrap32}
+use Rattle.fixed.specs.Integers.{signed, wrap32}
 use Rattle.fixed.specs.Fixed.{fromBits, subF}
 use Rattle.fixed.proofs.Bits.{read, low-sub}
 use Rattle.fixed.proofs.Fixed.sub.Statement.{statement}

@@ -6,7 +6,7 @@ use native.Mathlib.Omega.{arith}
 use lib.IntN.{ℤ}
 use lib.ListN.{length, take, length-map}
 use borrow.Author.Needs.{needs}
-use Rattle.fixed.specs.Whole.{bitsOf}
+use Rattle.fixed.specs.Integers.{bitsOf}
 use Rattle.words.specs.declared.answer.Answer.{Answer}
 use Rattle.words.specs.Answers.{numberOf, placeOf}
 use Rattle.hint.specs.Encode.{laid, resultIn}

@@ -9,7 +9,7 @@ use mir.Syntax.{w32}
 use mir.Val.{SFits}
 use mir.Facts.{toZ-ofZ}
 use borrow.Author.Needs.{needs}
-use Rattle.fixed.specs.Whole.{bitsOf}
+use Rattle.fixed.specs.Integers.{bitsOf}
 use Rattle.hint.specs.Encode.{laid}
 use Rattle.hint.proofs.Laid.{laid-length, laid-behind, laid-none, words-length, one-more}
 use Rattle.hint.proofs.encode.encode.Statement.{statement}

@@ -8,7 +8,7 @@ use mir.Syntax.{w32}
 use mir.Val.{SFits}
 use mir.Facts.{toZ-ofZ}
 use borrow.Author.Needs.{needs}
-use Rattle.fixed.specs.Whole.{bitsOf}
+use Rattle.fixed.specs.Integers.{bitsOf}
 use Rattle.hint.specs.Encode.{resultIn}
 use Rattle.hint.proofs.encode.result_words.Statement.{statement}
 use Rattle.hint.proofs.encode.result_words.Tie as tie

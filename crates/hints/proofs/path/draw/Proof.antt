@@ -1,7 +1,7 @@
 -- `draw` meets its contract, by that of `put`. Assumes nothing.
 use mathlib.Core.Bool.{true, false}
 use borrow.Author.Needs.{needs}
-use Rattle.hints.proofs.Outcome.{put-drew}
+use Rattle.hints.proofs.Drew.{put-drew}
 use Rattle.hints.proofs.path.draw.Statement.{statement}
 use Rattle.hints.proofs.path.draw.Tie as tie
 

@@ -4,7 +4,7 @@ use native.Mathlib.Omega.{arith}
 use borrow.Author.Needs.{needs}
 use Rattle.stems.specs.declared.mask.HintMask.{HintMask}
 use Rattle.hints.specs.declared.hints.Hints.{Hints}
-use Rattle.drawing.specs.Calls.{hintsOf, hintMask, counterMask}
+use Rattle.hints.specs.Calls.{hintsOf, hintMask, counterMask}
 use Rattle.commands.specs.declared.reading.Marking.{Marking}
 use Rattle.run.specs.Run.{maskEnd, markCall}
 use Rattle.run.proofs.marks.marked.Statement.{statement}

@@ -10,7 +10,7 @@ use borrow.Author.Needs.{needs}
 use borrow.Rule.Slice.PartMut.{putMid, same-len-mid}
 use mathlib.Core.Bool.{false}
 use Rattle.hints.specs.declared.hints.Hints.{Hints}
-use Rattle.hints.specs.declared.path.Path.{Path}
+use Rattle.pen.specs.declared.strokes.Path.{Path}
 use Rattle.hints.specs.Path.{strokeBy, Drew}
 use Rattle.hints.proofs.Steps.{ready-valid, drew-wrote, drew-refused}
 use Rattle.words.specs.Words.{rawAt}

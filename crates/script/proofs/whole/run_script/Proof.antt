@@ -8,10 +8,10 @@ use lib.IntN.{ℤ, pos}
 use lib.ListN.{length, take, drop}
 use borrow.Rule.Slice.PartMut.{putMid, same-len-mid}
 use Rattle.pen.specs.Records.{written}
-use Rattle.run.specs.Count.{recordsIn}
+use Rattle.script.specs.Count.{recordsIn}
 use Rattle.run.specs.Room.{Fitted}
-use Rattle.run.specs.Run.{outcomeOf, Ended}
-use Rattle.run.proofs.Counting.{few-records}
+use Rattle.run.specs.Run.{endingOf, Ended}
+use Rattle.script.proofs.Counting.{few-records}
 use Rattle.words.specs.declared.answer.Answer.{Answer}
 use Rattle.words.specs.declared.answer.Answer.the-variants.{Ok}
 use Rattle.words.specs.Answers.{firstOf, numberOf, refuses}
@@ -49,7 +49,7 @@ module _ (c : tie.After-run-commands) where
   abbrev fit : Fitted
   fit = ran script out (no-fault begun) enough
 
-  ended : Ended (outcomeOf fit (drop 4 out)) (c .run-commands .result) (c .run-commands .last .1 .0)
+  ended : Ended (endingOf fit (drop 4 out)) (c .run-commands .result) (c .run-commands .last .1 .0)
   ended = rw lent at (c .run-commands .ensures)
 
   answer-is : c .run-commands .result .answer ≡ fit .said

@@ -4,7 +4,7 @@ use mir.Syntax.{w32}
 use mir.Val.{SFits}
 use mir.Facts.{toZ-ofZ}
 use borrow.Author.Needs.{needs}
-use Rattle.fixed.specs.Whole.{signed}
+use Rattle.fixed.specs.Integers.{signed}
 use Rattle.words.proofs.read.word.Statement.{statement}
 use Rattle.words.proofs.read.word.Tie as tie
 

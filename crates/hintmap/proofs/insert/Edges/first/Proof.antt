@@ -1,7 +1,7 @@
 -- `Edges::first` meets its contract, by its two cases. Assumes nothing.
 use borrow.Author.Needs.{needs}
 use mathlib.Core.Path.{sym, ap}
-use Rattle.hintmap.specs.Insert.{firstOf}
+use Rattle.hintmap.specs.Insert.{firstEdge}
 use Rattle.hintmap.proofs.insert.Edges.first.Statement.{statement}
 use Rattle.hintmap.proofs.insert.Edges.first.Tie as tie
 
@@ -15,7 +15,7 @@ returns : tie.Need-returns
 returns c = search needs
 
 returns-2 : tie.Need-returns-2
-returns-2 c = sym (ap firstOf (c .before .self2 .given .1))
+returns-2 c = sym (ap firstEdge (c .before .self2 .given .1))
 
 pub first-spec : {M : Type 1} → statement M
 first-spec = tie.close (tie.spec enum-known-self enum-known-self-2 returns returns-2)

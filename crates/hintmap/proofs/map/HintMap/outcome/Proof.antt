@@ -14,7 +14,7 @@ use Rattle.stems.specs.declared.edge.Hint.{Hint}
 use Rattle.hintmap.specs.declared.map.HintMap.{HintMap}
 use Rattle.hintmap.specs.declared.insert.Edges.{Edges}
 use Rattle.hintmap.specs.declared.insert.Outcome.the-variants.{Enters}
-use Rattle.hintmap.specs.Map.{view, placeOf, mapOf}
+use Rattle.hintmap.specs.Map.{view, placeAmong, mapOf}
 use Rattle.hintmap.specs.Insert.{mayEnter, bars, under, tooHigh, around, again, placedBy, charClear, belowClear, aboveClear, placeFor, placedFor, outcomeOf}
 use Rattle.hintmap.proofs.Near.{Asked, asked, behind-at, behind-none}
 use Rattle.hintmap.proofs.Enter.{enters-room}
@@ -24,7 +24,7 @@ use Rattle.hintmap.proofs.map.HintMap.outcome.Tie as tie
 
 abbrev Inv-loop : tie.InvT-loop
 Inv-loop e initial given self len f at₀ at =
-    (at ≤ self .len) × (placeOf (view self) (f .«cs_coord») ≡ at + placeOf (drop at (view self)) (f .«cs_coord»))
+    (at ≤ self .len) × (placeAmong (view self) (f .«cs_coord») ≡ at + placeAmong (drop at (view self)) (f .«cs_coord»))
 
 abbrev μ-loop : tie.MeasureT-loop
 μ-loop e initial given self len f at₀ at = self .len - at
@@ -62,7 +62,7 @@ module _ (c : tie.Left-loop Inv-loop μ-loop) where
   found =
       let k = known entered (λ (e : Hint). lessF (e .«cs_coord») (c .before .before .first .result .«cs_coord»)) in
       sym (c .before .loop .inv .1 ∙ ⊎-elim (λ w. k .ends _ _ (w .left)) (λ w. k .stops _ _ (w .0 .taken) (w .2 .ensures) (w .3 .taken)) (c .loop-test .came)) ∙
-      ap (λ (f : Hint). placeOf (view map) (f .«cs_coord»)) (c .before .before .first .ensures)
+      ap (λ (f : Hint). placeAmong (view map) (f .«cs_coord»)) (c .before .before .first .ensures)
 
   within : (at ≤ map .len) × (map .len ≤ 96)
   within = (c .before .loop .inv .0, few entered)

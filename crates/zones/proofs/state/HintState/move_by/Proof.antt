@@ -1,5 +1,5 @@
 -- `HintState::move_by` meets its contract, by the test of the zone. Assumes nothing.
-use Rattle.zones.specs.Capture.{moveOf}
+use Rattle.zones.specs.Capture.{captureMove}
 use borrow.Author.Needs.{needs}
 use Rattle.zones.proofs.state.HintState.move_by.Statement.{statement}
 use Rattle.zones.proofs.state.HintState.move_by.Tie as tie
@@ -11,7 +11,7 @@ sub-requires : tie.Need-sub-requires
 sub-requires c κs = search needs
 
 returns : tie.Need-returns
-unfolding moveOf
+unfolding captureMove
 returns c = rw (c .sub .ensures, c .before .bottom-goal .ensures, c .before .before .if1 .taken)
 
 top-goal-requires : tie.Need-top-goal-requires
@@ -21,7 +21,7 @@ sub-requires-2 : tie.Need-sub-requires-2
 sub-requires-2 c κs = search needs
 
 returns-2 : tie.Need-returns-2
-unfolding moveOf
+unfolding captureMove
 returns-2 c = rw (c .sub2 .ensures, c .before .top-goal .ensures, c .before .before .if1 .left)
 
 pub move-by-spec : {M : Type 1} → statement M

@@ -1,0 +1,36 @@
+// How many records there are in some words.
+use fixed::least;
+ghost use mathlib.Core.Path.{_≡_};
+ghost use Prim.Native.Nat.{_≤_};
+ghost use lib.ListN.{take};
+ghost use Rattle.script.specs.Count.{sizeOf, recordsIn};
+
+// The words that a record of a kind takes.
+fn size(kind: i32) -> usize
+    ensures { λ r. ⌜ (r ≡ sizeOf kind) × (r ≤ 7) ⌝ }
+{
+    if kind == 1 {
+        return 3;
+    }
+    if kind == 2 {
+        return 3;
+    }
+    if kind == 3 {
+        return 7;
+    }
+    1
+}
+
+// The records in the first words of an output.
+pub(crate) fn count_records(out: &[i32], words: usize) -> usize
+    ensures { λ r. ⌜ r ≡ recordsIn (take words (now (out .entry))) ⌝ }
+{
+    let end = least(words, out.len());
+    let mut count = 0;
+    let mut at = 0;
+    while at < end {
+        at = at + size(out[at]);
+        count = count + 1;
+    }
+    count
+}

@@ -1,0 +1,156 @@
+// What the program says.
+use crate::cases::Judged;
+use crate::cases::Seen;
+use crate::cases::case;
+use crate::judging::Verdict;
+use io::print_decimal;
+use io::read_full;
+use io::write_all;
+use libc::STDOUT_FILENO;
+use std::num::wrapping_add_usize;
+use words::natural;
+
+// How many cases were run, how many of them differ, how many are marked, and how many have each number.
+struct Tally {
+    run: usize,
+    differ: usize,
+    marked: usize,
+    numbers: [usize; 7],
+}
+
+impl Tally {
+    fn none() -> Tally {
+        Tally {
+            run: 0,
+            differ: 0,
+            marked: 0,
+            numbers: [0; 7],
+        }
+    }
+
+    // One case more.
+    fn with(self, judged: Judged) -> Tally {
+        let mut tally = self;
+        tally.run = wrapping_add_usize(tally.run, 1);
+        if judged.mark != 0 {
+            tally.marked = wrapping_add_usize(tally.marked, 1);
+        }
+        let number = judged.number;
+        if number < 7 {
+            let before = tally.numbers[number];
+            tally.numbers[number] = wrapping_add_usize(before, 1);
+        }
+        let verdict = judged.verdict;
+        let Verdict::Same = verdict else {
+            tally.differ = wrapping_add_usize(tally.differ, 1);
+            return tally;
+        };
+        tally
+    }
+}
+
+// The tables of scripts.
+pub(crate) fn scripts(file: i32) {
+    table(b"the whole case", file);
+    table(b"lengths", file);
+    table(b"header", file);
+    table(b"padding", file);
+    table(b"parameters", file);
+    table(b"kinds", file);
+    table(b"operands cut off", file);
+    table(b"masks", file);
+    table(b"two faults", file);
+    table(b"rooms", file);
+    table(b"glyphs", file);
+    table(b"damaged copies", file);
+    end(file);
+}
+
+// The sample, which is one table.
+pub(crate) fn sample(file: i32) {
+    let tally = table(b"sample", file);
+    end(file);
+    totals(tally);
+}
+
+// Runs as many cases as the next word says, and says how many differ.
+fn table(name: &[u8], file: i32) -> Tally {
+    let mut word = [0u8; 4];
+    read_full(file, &mut word);
+    let tally = run(file, natural(&word, 0));
+    test_tables::counts(name, tally.run, tally.differ);
+    tally
+}
+
+// Says so where the file does not end here.
+fn end(file: i32) {
+    let mut byte = [0u8; 1];
+    if read_full(file, &mut byte) != 0 {
+        write_all(STDOUT_FILENO, b"the file goes on after its last case\n");
+    }
+}
+
+// Runs so many cases, or those before the first that cannot be read.
+fn run(file: i32, count: usize) -> Tally {
+    let mut tally = Tally::none();
+    for i in 0..count {
+        let seen = case(file);
+        let Seen::Run(judged) = seen else {
+            of_case(i);
+            write_all(STDOUT_FILENO, b"cut off or too large\n");
+            return tally;
+        };
+        let verdict = judged.verdict;
+        if tally.differ < 10 {
+            difference(i, verdict);
+        }
+        tally = tally.with(judged);
+    }
+    tally
+}
+
+// A case, counted from 0.
+fn of_case(i: usize) {
+    write_all(STDOUT_FILENO, b"case ");
+    print_decimal(STDOUT_FILENO, i as u64);
+    write_all(STDOUT_FILENO, b": ");
+}
+
+// Where a case first differs, if it does.
+fn difference(i: usize, verdict: Verdict) {
+    match verdict {
+        Verdict::Same => {}
+        Verdict::Number => {
+            of_case(i);
+            write_all(STDOUT_FILENO, b"number differs\n");
+        }
+        Verdict::Place => {
+            of_case(i);
+            write_all(STDOUT_FILENO, b"place differs\n");
+        }
+        Verdict::Word(at) => {
+            of_case(i);
+            write_all(STDOUT_FILENO, b"word ");
+            print_decimal(STDOUT_FILENO, at as u64);
+            write_all(STDOUT_FILENO, b" differs\n");
+        }
+    }
+}
+
+fn totals(tally: Tally) {
+    total(b"OK", tally.numbers[0]);
+    total(b"BAD_SCRIPT", tally.numbers[1]);
+    total(b"BAD_SCALE", tally.numbers[2]);
+    total(b"BAD_BLUES", tally.numbers[3]);
+    total(b"BAD_COMMAND", tally.numbers[4]);
+    total(b"BAD_MASK", tally.numbers[5]);
+    total(b"NO_ROOM", tally.numbers[6]);
+    total(b"marked, since 01 and the Rust differ", tally.marked);
+}
+
+fn total(name: &[u8], count: usize) {
+    write_all(STDOUT_FILENO, name);
+    write_all(STDOUT_FILENO, b": ");
+    print_decimal(STDOUT_FILENO, count as u64);
+    write_all(STDOUT_FILENO, b"\n");
+}

@@ -1,0 +1,12 @@
+pub mod Rooms
+pub mod Params
+pub mod Faults
+pub mod Demand1
+pub mod Sound
+pub mod Made
+pub mod Demand3
+pub mod Lone
+pub mod Moves
+pub mod Baseline
+pub mod WholeRecords
+pub mod Scales
