@@ -5,7 +5,7 @@ use stems::Hint;
 use stems::MAX_HINTS;
 ghost use mathlib.Core.Path.{_≡_};
 ghost use Prim.Native.Nat.{_-_, _<_, _≤_};
-ghost use Rattle.stems.specs.Edge.{isPair};
+ghost use Rattle.stems.specs.Edge.{maxHints, isPair};
 ghost use Rattle.adjust.specs.Adjust.{toNext, movesOf, besideBy, roomUp, roomDown, choiceOf, noteOf, movedHint, settleOf, rescaledHint};
 ghost use Rattle.adjust.specs.Pass.{nextPlace, upperBy, lowerBy};
 ghost use Rattle.adjust.specs.Second.{secondPass, adjustOf};
@@ -203,7 +203,7 @@ fn previous(k: usize) -> usize
 }
 
 fn next(k: usize, len: usize) -> usize
-    requires { ⌜ k < 96 ⌝ }
+    requires { ⌜ k < maxHints ⌝ }
     ensures { λ r. ⌜ r ≡ nextPlace len k ⌝ }
 {
     if k + 1 < len {
@@ -224,7 +224,7 @@ fn beside(there: bool, edge: Hint) -> Neighbour
 
 // From `adjust`: the place of the upper edge of the hint whose lower edge is at i. Above a pair's lower edge there always is one.
 fn upper(edge: Hint, i: usize, len: usize) -> usize
-    requires { ⌜ i < 96 ⌝ }
+    requires { ⌜ i < maxHints ⌝ }
     ensures { λ r. ⌜ r ≡ upperBy (isPair edge) len i ⌝ }
 {
     if edge.is_pair() {
@@ -246,7 +246,7 @@ fn lower(edge: Hint, j: usize) -> usize
 // From `adjust`: the second pass, newest note first, lifts hints for which the moves above them have made room. Every note is of an
 // edge of the map. Scales stay.
 fn second_pass(map: HintMap, notes: Notes) -> HintMap
-    requires { ⌜ (map .len ≤ 96) × (notes .count ≤ 96) ⌝ }
+    requires { ⌜ (map .len ≤ maxHints) × (notes .count ≤ maxHints) ⌝ }
     ensures { λ r. ⌜ r ≡ secondPass (notes .count) notes map ⌝ }
 {
     let len = map.len;
@@ -275,7 +275,7 @@ fn second_pass(map: HintMap, notes: Notes) -> HintMap
 
 // Ports `adjust`. The first pass goes upward over the hints and does not look ahead: what it leaves short is noted for the second.
 pub fn adjust(map: HintMap) -> HintMap
-    requires { ⌜ map .len ≤ 96 ⌝ }
+    requires { ⌜ map .len ≤ maxHints ⌝ }
     ensures { λ r. ⌜ r ≡ adjustOf map ⌝ }
 {
     let zero = Fixed::ZERO;

@@ -12,6 +12,7 @@ use Rattle.stems.specs.declared.edge.Hint.{Hint}
 use Rattle.stems.specs.Edge.{noHint}
 use Rattle.hintmap.specs.declared.map.HintMap.{HintMap}
 use Rattle.hintmap.specs.Insert.{chosen, insertIn}
+use Rattle.zones.specs.State.{icfBottom, icfTop}
 
 -- a locked, synthetic edge
 abbrev pub ghostAt : Kind → Fixed → Fixed → Fixed → Hint
@@ -28,10 +29,10 @@ ghostAt k h d s =
 
 -- the em box: at −120.0 less a bit and at 880.0 and a bit, each rounded on the device and half a pixel further out
 abbrev pub boxBottom : Fixed
-boxBottom = fromBits (whole (negℤ (pos 120)) .bits -ℤ pos 1)
+boxBottom = fromBits (icfBottom .bits -ℤ pos 1)
 
 abbrev pub boxTop : Fixed
-boxTop = fromBits (whole (pos 880) .bits +ℤ pos 1)
+boxTop = fromBits (icfTop .bits +ℤ pos 1)
 
 unfoldable pub emBottom : Fixed → Hint
 emBottom s = ghostAt GhostBottom boxBottom (subF (roundF (mulF boxBottom s)) HALF) s

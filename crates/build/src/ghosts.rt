@@ -7,6 +7,7 @@ use stems::Kind;
 ghost use mathlib.Core.Path.{_≡_};
 ghost use Prim.Native.Nat.{_≤_};
 ghost use Rattle.build.specs.Ghosts.{ghostAt, emBottom, emTop, emBoxed, uncovered, baselined};
+ghost use Rattle.stems.specs.Edge.{maxHints};
 
 // The ghosts of the em box lie one bit outside of it, so that a zone or a stem at its edge is none of them.
 const BOX_BOTTOM: Fixed = Fixed { bits: -0x78_0001 };
@@ -60,7 +61,7 @@ pub(crate) fn with_em_box(map: HintMap, wanted: bool, initial: HintMap, given: b
 
 // From `build`: no edge, or all above the baseline, or all below.
 fn is_uncovered(map: HintMap) -> bool
-    requires { ⌜ map .len ≤ 96 ⌝ }
+    requires { ⌜ map .len ≤ maxHints ⌝ }
     ensures { λ r. ⌜ r ≡ uncovered map ⌝ }
 {
     let len = map.len;
@@ -77,7 +78,7 @@ fn is_uncovered(map: HintMap) -> bool
 
 // From `build`: a glyph whose hints leave the baseline out has it locked in the initial map all the same.
 pub(crate) fn with_baseline(map: HintMap) -> HintMap
-    requires { ⌜ map .len ≤ 96 ⌝ }
+    requires { ⌜ map .len ≤ maxHints ⌝ }
     ensures { λ r. ⌜ r ≡ baselined map ⌝ }
 {
     if is_uncovered(map) {

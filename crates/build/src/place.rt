@@ -12,6 +12,7 @@ use zones::HintState;
 ghost use mathlib.Core.Path.{_≡_};
 ghost use Prim.Native.Nat.{min};
 ghost use Rattle.build.specs.Place.{declaredIn, preparedOf, lockedTurns, freeTurns};
+ghost use Rattle.stems.specs.Edge.{maxHints};
 
 // The map so far, and the stems that are still to be placed.
 pub struct Placed {
@@ -21,7 +22,7 @@ pub struct Placed {
 
 // How many of the stems count.
 fn declared(count: usize) -> usize
-    ensures { λ r. ⌜ r ≡ min count 96 ⌝ }
+    ensures { λ r. ⌜ r ≡ min count maxHints ⌝ }
 {
     least(count, MAX_HINTS)
 }

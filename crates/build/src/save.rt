@@ -8,6 +8,7 @@ ghost use mathlib.Core.Path.{_≡_};
 ghost use Prim.Native.Nat.{_≤_};
 ghost use Rattle.hintmap.specs.Map.{view};
 ghost use Rattle.build.specs.Build.{savedStem, savedAll};
+ghost use Rattle.stems.specs.Edge.{maxHints};
 
 // From `build`: a stem that is used, with the height of one edge saved.
 fn saved(stem: StemHint, edge: Hint) -> StemHint
@@ -26,7 +27,7 @@ fn saved(stem: StemHint, edge: Hint) -> StemHint
 
 // From `build`: the heights of all edges are saved, each in its stem. No edge that a stem has is out of range.
 pub(crate) fn save_all(stems: Stems, map: HintMap) -> Stems
-    requires { ⌜ map .len ≤ 96 ⌝ }
+    requires { ⌜ map .len ≤ maxHints ⌝ }
     ensures { λ r. ⌜ r ≡ savedAll (view map) stems ⌝ }
 {
     let mut after = stems;

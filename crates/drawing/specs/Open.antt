@@ -9,7 +9,7 @@ use Rattle.fixed.specs.declared.Fixed.{Fixed}
 use Rattle.fixed.specs.Fixed.{fromBits, ZERO, ONE, lessF}
 use Rattle.zones.specs.declared.state.HintParams.{HintParams}
 use Rattle.zones.specs.declared.state.HintState.{HintState}
-use Rattle.zones.specs.Zones.{noZone}
+use Rattle.zones.specs.Zones.{maxBlues, maxZones, noZone}
 use Rattle.zones.specs.State.{stateOf}
 use Rattle.pen.specs.Strokes.{newPen}
 use Rattle.hints.specs.declared.drawing.Drawing.{Drawing}
@@ -21,7 +21,7 @@ use Rattle.hints.specs.Hints.{newHints}
 -- every list has at most seven pairs
 unfoldable pub countsFit : HintParams → Bool
 countsFit p =
-    leb (p .blues .count) 7 && (leb (p .«other_blues» .count) 7 && (leb (p .«family_blues» .count) 7 && leb (p .«family_other_blues» .count) 7))
+    leb (p .blues .count) maxBlues && (leb (p .«other_blues» .count) maxBlues && (leb (p .«family_blues» .count) maxBlues && leb (p .«family_other_blues» .count) maxBlues))
 
 -- scale 1.0, all else 0
 abbrev pub refusedState : HintState
@@ -34,7 +34,7 @@ refusedState =
       «suppress_overshoot» = false;
       «do_em_box_hints» = false;
       boost = ZERO;
-      zones = replicate 12 noZone;
+      zones = replicate maxZones noZone;
       «zone_count» = 0;
     }
 

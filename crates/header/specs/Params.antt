@@ -8,7 +8,7 @@ use Rattle.fixed.specs.Fixed.{fromBits, lessF}
 use Rattle.zones.specs.declared.blues.Blue.{Blue}
 use Rattle.zones.specs.declared.blues.Blues.{Blues}
 use Rattle.zones.specs.declared.state.HintParams.{HintParams}
-use Rattle.zones.specs.Zones.{noBlue}
+use Rattle.zones.specs.Zones.{maxBlues, noBlue}
 use Rattle.words.specs.declared.answer.Answer.{Answer}
 use Rattle.words.specs.declared.answer.Answer.the-variants.{BadScript, BadScale, BadBlues}
 use Rattle.words.specs.Words.{rawAt, wordAt, numberAt}
@@ -23,10 +23,10 @@ pairsIn w = w 12 + w 13 + w 14 + w 15
 unfoldable pub paramRows : (ℕ → ℕ) → List (Row Answer)
 paramRows w =
     row (lessF (numberAt w 1) (fromBits (pos 1))) BadScale ∷
-    row (ltb 7 (w 12)) (BadBlues 12) ∷
-    row (ltb 7 (w 13)) (BadBlues 13) ∷
-    row (ltb 7 (w 14)) (BadBlues 14) ∷
-    row (ltb 7 (w 15)) (BadBlues 15) ∷
+    row (ltb maxBlues (w 12)) (BadBlues 12) ∷
+    row (ltb maxBlues (w 13)) (BadBlues 13) ∷
+    row (ltb maxBlues (w 14)) (BadBlues 14) ∷
+    row (ltb maxBlues (w 15)) (BadBlues 15) ∷
     row (differs (w 3) (8 + 2 * pairsIn w)) (BadScript 3) ∷
     []
 
@@ -40,7 +40,7 @@ pairsFrom w i (suc n) = pairAt w i ∷ pairsFrom w (i + 2) n
 
 -- the same as a list of seven, zeros behind them
 unfoldable pub bluesAt : (ℕ → ℕ) → ℕ → ℕ → Blues
-bluesAt w i n = record { pairs = pairsFrom w i n ++ replicate (7 - n) noBlue; count = n }
+bluesAt w i n = record { pairs = pairsFrom w i n ++ replicate (maxBlues - n) noBlue; count = n }
 
 -- one pair more
 abbrev pub pushedPair : Blues → Blue → Blues
@@ -62,8 +62,8 @@ paramsOf w =
 
 -- what a script with a fine header and fine counts has: at most seven pairs a list, and all of them in the script
 pub record WholeParams (s : List ℕ) : Type 0 where
-  pub blues : rawAt s 12 ≤ 7
-  pub others : rawAt s 13 ≤ 7
-  pub family : rawAt s 14 ≤ 7
-  pub familyOthers : rawAt s 15 ≤ 7
+  pub blues : rawAt s 12 ≤ maxBlues
+  pub others : rawAt s 13 ≤ maxBlues
+  pub family : rawAt s 14 ≤ maxBlues
+  pub familyOthers : rawAt s 15 ≤ maxBlues
   pub there : 4 * (16 + 2 * pairsIn (rawAt s)) ≤ length s

@@ -13,6 +13,7 @@ ghost use Prim.Native.Nat.{_+_, _*_, _≤_, _<_};
 ghost use lib.ListN.{length};
 ghost use Rattle.words.specs.Words.{rawAt};
 ghost use Rattle.header.specs.Params.{pairAt, pushedPair, bluesAt, paramsOf, WholeParams};
+ghost use Rattle.zones.specs.Zones.{maxBlues};
 
 fn pair(script: &[u8], at: usize) -> Blue
     requires { ⌜ 4 * at + 8 ≤ length (now script) ⌝ }
@@ -25,7 +26,7 @@ fn pair(script: &[u8], at: usize) -> Blue
 
 // One pair more.
 fn with_pair(blues: Blues, given: Blue) -> Blues
-    requires { ⌜ blues .count < 7 ⌝ }
+    requires { ⌜ blues .count < maxBlues ⌝ }
     ensures { λ r. ⌜ r ≡ pushedPair blues given ⌝ }
 {
     let mut more = blues;
@@ -37,7 +38,7 @@ fn with_pair(blues: Blues, given: Blue) -> Blues
 
 // So many pairs from a word on.
 fn read_blues(script: &[u8], at: usize, count: usize) -> Blues
-    requires { ⌜ (count ≤ 7) × (4 * (at + 2 * count) ≤ length (now script)) ⌝ }
+    requires { ⌜ (count ≤ maxBlues) × (4 * (at + 2 * count) ≤ length (now script)) ⌝ }
     ensures { λ r. ⌜ r ≡ bluesAt (rawAt (now (script .entry))) at count ⌝ }
 {
     let none = Blue {

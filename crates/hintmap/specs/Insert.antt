@@ -12,7 +12,7 @@ use Rattle.hintmap.specs.declared.insert.Edges.{Edges}
 use Rattle.hintmap.specs.declared.insert.Edges.the-variants.{One, Two}
 use Rattle.hintmap.specs.declared.insert.Outcome.{Outcome}
 use Rattle.hintmap.specs.declared.insert.Outcome.the-variants.{Enters, Dropped}
-use Rattle.stems.specs.Edge.{isValid, isPairTop, atDevice}
+use Rattle.stems.specs.Edge.{maxHints, lastHint, isValid, isPairTop, atDevice}
 use Rattle.hintmap.specs.Map.{view, placeAmong, putIn, mapOf, clearAhead, clearBehind}
 
 abbrev pub chosenBy : Bool → Bool → Hint → Hint → Edges
@@ -34,8 +34,8 @@ edgesOf (Two b t) = b ∷ t ∷ []
 
 -- a pair is in order, and there is room
 unfoldable pub mayEnter : ℕ → Edges → Bool
-mayEnter n (One e) = ltb n 96
-mayEnter n (Two b t) = not (lessF (t .«cs_coord») (b .«cs_coord»)) && ltb n 95
+mayEnter n (One e) = ltb n maxHints
+mayEnter n (Two b t) = not (lessF (t .«cs_coord») (b .«cs_coord»)) && ltb n lastHint
 
 -- the edge x at the place stands in the way in character height
 unfoldable pub bars : Hint → Edges → Bool

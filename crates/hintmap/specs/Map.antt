@@ -8,11 +8,11 @@ use Rattle.fixed.specs.declared.Fixed.{Fixed}
 use Rattle.fixed.specs.Fixed.{addF, subF, mulF, lessF, atMostF}
 use Rattle.stems.specs.declared.edge.Hint.{Hint}
 use Rattle.hintmap.specs.declared.map.HintMap.{HintMap}
-use Rattle.stems.specs.Edge.{noHint}
+use Rattle.stems.specs.Edge.{maxHints, noHint}
 
 -- a map with no edges, to be built
 abbrev pub newMap : Fixed → HintMap
-newMap s = record { edges = replicate 96 noHint; len = 0; «is_valid» = false; scale = s }
+newMap s = record { edges = replicate maxHints noHint; len = 0; «is_valid» = false; scale = s }
 
 -- the same map, to be built anew
 abbrev pub invalidMap : HintMap → HintMap

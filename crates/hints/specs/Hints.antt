@@ -16,6 +16,7 @@ use Rattle.build.specs.declared.build_map.Built.{Built}
 use Rattle.build.specs.Build.{initialOf, builtOf}
 use Rattle.pen.specs.declared.strokes.Point.{Point}
 use Rattle.hints.specs.declared.hints.Hints.{Hints}
+use Rattle.stems.specs.Edge.{maxHints}
 
 abbrev pub unusedStem : Fixed → Fixed → StemHint
 unusedStem min max = record { «is_used» = false; min = min; max = max; «ds_min» = ZERO; «ds_max» = ZERO }
@@ -24,7 +25,7 @@ unusedStem min max = record { «is_used» = false; min = min; max = max; «ds_mi
 abbrev pub newHints : Fixed → Hints
 newHints s =
     record {
-      stems = record { list = replicate 96 (unusedStem ZERO ZERO); count = 0 };
+      stems = record { list = replicate maxHints (unusedStem ZERO ZERO); count = 0 };
       mask = allActive;
       initial = newMap s;
       map = newMap s;
@@ -43,7 +44,7 @@ stemBy false min max h = h
 
 -- taken unless the map is valid or there are 96
 unfoldable pub withStem : Fixed → Fixed → Hints → Hints
-withStem min max h = stemBy (not (h .map .«is_valid») && ltb (h .stems .count) 96) min max h
+withStem min max h = stemBy (not (h .map .«is_valid») && ltb (h .stems .count) maxHints) min max h
 
 -- ---- a mask: one that is the present one changes nothing, another makes the map invalid
 abbrev pub maskBy : Bool → HintMask → Hints → Hints

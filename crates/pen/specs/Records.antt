@@ -9,12 +9,16 @@ use lib.ListN.{length, take, drop, set, replicate}
 use Rattle.pen.specs.declared.records.Records.{Records}
 use Rattle.pen.specs.declared.strokes.Point.{Point}
 
+-- the most words that a call writes: a line that waited, and a curve
+abbrev pub maxWords : ℕ
+maxWords = 10
+
 -- some words, at most ten, with zeros behind them
 unfoldable pub emitted : List ℤ → Records
-emitted ws = record { words = ws ++ replicate (10 - length ws) (pos 0); count = length ws }
+emitted ws = record { words = ws ++ replicate (maxWords - length ws) (pos 0); count = length ws }
 
 abbrev pub noRecords : Records
-noRecords = record { words = replicate 10 (pos 0); count = 0 }
+noRecords = record { words = replicate maxWords (pos 0); count = 0 }
 
 -- one word more, and a point's two
 abbrev pub pushed : Records → ℤ → Records

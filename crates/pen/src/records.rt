@@ -3,7 +3,7 @@ use crate::strokes::Point;
 use fixed::least;
 ghost use mathlib.Core.Path.{_≡_};
 ghost use Prim.Native.Nat.{_+_, _<_};
-ghost use Rattle.pen.specs.Records.{noRecords, pushed, pushedPoint, Put};
+ghost use Rattle.pen.specs.Records.{maxWords, noRecords, pushed, pushedPoint, Put};
 
 // The most words that a call writes: a line that waited, three, and a curve, seven.
 pub const MAX_WORDS: usize = 10;
@@ -26,7 +26,7 @@ impl Records {
 
     // One word more.
     pub(crate) fn push(self, word: i32) -> Records
-        requires { ⌜ self .count < 10 ⌝ }
+        requires { ⌜ self .count < maxWords ⌝ }
         ensures { λ r. ⌜ r ≡ pushed self word ⌝ }
     {
         let mut records = self;
@@ -38,7 +38,7 @@ impl Records {
 
     // A point's two words more.
     pub(crate) fn point(self, p: Point) -> Records
-        requires { ⌜ self .count + 1 < 10 ⌝ }
+        requires { ⌜ self .count + 1 < maxWords ⌝ }
         ensures { λ r. ⌜ r ≡ pushedPoint self p ⌝ }
     {
         self.push(p.x.bits).push(p.y.bits)

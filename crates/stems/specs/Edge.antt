@@ -11,6 +11,14 @@ use Rattle.stems.specs.declared.edge.Hint.{Hint}
 use Rattle.stems.specs.declared.edge.Shape.{Shape}
 use Rattle.stems.specs.declared.edge.Shape.the-variants.{BottomGhost, TopGhost, Pair}
 
+-- the most stems of a glyph, and the most edges of a map
+abbrev pub maxHints : ℕ
+maxHints = 96
+
+-- the number of the last stem, and the least length of a map without room for a pair
+abbrev pub lastHint : ℕ
+lastHint = 95
+
 -- ---- kinds of edges
 abbrev pub validK : Kind → Bool
 validK Absent = false

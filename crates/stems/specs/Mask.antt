@@ -6,16 +6,20 @@ use lib.Dec.{eqb, ltb}
 use lib.ListN.{length, getD, set, replicate}
 use Rattle.stems.specs.declared.mask.HintMask.{HintMask}
 
+-- the bytes of a mask: a bit for each stem
+abbrev pub maskSize : ℕ
+maskSize = 12
+
 abbrev pub ofBytes : List ℕ → HintMask
 ofBytes bs = record { bytes = bs }
 
 -- every stem
 abbrev pub allActive : HintMask
-allActive = ofBytes (replicate 12 255)
+allActive = ofBytes (replicate maskSize 255)
 
 -- over twelve bytes every stem is active; a shorter mask is filled with zeros
 unfoldable pub maskOf : List ℕ → HintMask
-maskOf bs = cond (ltb 12 (length bs)) allActive (ofBytes (bs ++ replicate (12 - length bs) 0))
+maskOf bs = cond (ltb maskSize (length bs)) allActive (ofBytes (bs ++ replicate (maskSize - length bs) 0))
 
 -- the byte that holds a stem's bit, and the bit's weight there: stem 0 has the most significant of the first byte
 abbrev pub byteOf : HintMask → ℕ → ℕ

@@ -13,7 +13,7 @@ use Rattle.fixed.specs.Fixed.{mulF, truncF}
 use Rattle.stems.specs.declared.mask.HintMask.{HintMask}
 use Rattle.stems.specs.declared.edge.Kind.the-variants.{PairBottom, PairTop}
 use Rattle.stems.specs.declared.edge.Hint.{Hint}
-use Rattle.stems.specs.Edge.{noHint}
+use Rattle.stems.specs.Edge.{maxHints, noHint}
 use Rattle.zones.specs.declared.state.HintParams.{HintParams}
 use Rattle.zones.specs.declared.state.HintState.{HintState}
 use Rattle.hintmap.specs.declared.map.HintMap.{HintMap}
@@ -95,7 +95,7 @@ pub record Carried (m : HintMap) (h : Fixed) : Type 0 where
 
 pub record Sound (m : HintMap) : Type 0 where
   -- at most 96 edges
-  pub few : m .len ≤ 96
+  pub few : m .len ≤ maxHints
   -- never-falling character height
   pub rising : (i j : ℕ) → i ≤ j → j < m .len → height m i .bits ≤ℤ height m j .bits
   -- neighbours share a height only as bottom and top of one stem

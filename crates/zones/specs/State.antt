@@ -11,6 +11,20 @@ use Rattle.zones.specs.declared.state.HintParams.{HintParams}
 use Rattle.zones.specs.declared.state.HintState.{HintState}
 use Rattle.zones.specs.Zones.{noBlue, whollyBelow, whollyAbove, kept, greatestFrom, movedFlat, deviceFlat, filled}
 
+-- the em box, from −120 to 880
+abbrev pub icfBottom : Fixed
+icfBottom = whole (negℤ (pos 120))
+
+abbrev pub icfTop : Fixed
+icfTop = whole (pos 880)
+
+-- the boost at scale 0, and the most that it may be
+abbrev pub fullBoost : Fixed
+fullBoost = fromBits (pos 39322)
+
+abbrev pub mostBoost : Fixed
+mostBoost = fromBits (pos 32767)
+
 -- ---- em-box hints
 abbrev pub isOne : ℤ → Bool
 isOne (pos n) = eqb n 1
@@ -20,7 +34,7 @@ isOne (negsuc n) = false
 unfoldable pub emBox : HintParams → Bool
 emBox p =
     isOne (p .«language_group») && (eqb (p .blues .count) 0 || (eqb (p .blues .count) 2
-    && (whollyBelow (whole (negℤ (pos 120))) (getD (p .blues .pairs) 0 noBlue) && whollyAbove (whole (pos 880)) (getD (p .blues .pairs) 1 noBlue))))
+    && (whollyBelow icfBottom (getD (p .blues .pairs) 0 noBlue) && whollyAbove icfTop (getD (p .blues .pairs) 1 noBlue))))
 
 -- ---- step 3: blue scale is at most 1.0/(the greatest height), where that height is above 0
 unfoldable pub clampedScale : Fixed → Fixed → Fixed
@@ -31,7 +45,7 @@ abbrev pub suppresses : Fixed → Fixed → Bool
 suppresses s bs = lessF s bs
 
 unfoldable pub boostOf : Fixed → Fixed → Fixed
-boostOf s bs = cond (suppresses s bs) (minF (subF (fromBits (pos 39322)) (mulDivF (fromBits (pos 39322)) s bs)) (fromBits (pos 32767))) ZERO
+boostOf s bs = cond (suppresses s bs) (minF (subF fullBoost (mulDivF fullBoost s bs)) mostBoost) ZERO
 
 -- ---- the state
 -- the zones that are kept, and the blue scale that they allow

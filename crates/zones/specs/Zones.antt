@@ -12,6 +12,16 @@ use Rattle.zones.specs.declared.blues.BlueZone.{BlueZone}
 use Rattle.zones.specs.declared.blues.Zones.{Zones}
 use Rattle.zones.specs.declared.blues.Nearest.{Nearest}
 
+-- the most pairs of a list, the other blues that count, and the most zones
+abbrev pub maxBlues : ℕ
+maxBlues = 7
+
+abbrev pub maxOtherBlues : ℕ
+maxOtherBlues = 5
+
+abbrev pub maxZones : ℕ
+maxZones = 12
+
 abbrev pub noBlue : Blue
 noBlue = record { bottom = ZERO; top = ZERO }
 
@@ -54,7 +64,7 @@ bluesZones (b ∷ bs) = zoneOf true b ∷ map (zoneOf false) bs
 
 -- blues in order, then the first five other blues, which are bottom zones
 unfoldable pub kept : Blues → Blues → List BlueZone
-kept blues others = bluesZones (sift (listOf blues)) ++ map (zoneOf true) (sift (take 5 (listOf others)))
+kept blues others = bluesZones (sift (listOf blues)) ++ map (zoneOf true) (sift (take maxOtherBlues (listOf others)))
 
 -- for step 3: the greatest height of some zones, or g if that is greater
 unfoldable pub greatestFrom : Fixed → List BlueZone → Fixed
@@ -133,7 +143,7 @@ noZone = zoneOf false noBlue
 
 -- some zones, at most twelve, with blank ones behind them; and the same with their count and greatest height
 abbrev pub filled : List BlueZone → List BlueZone
-filled zs = zs ++ replicate (12 - length zs) noZone
+filled zs = zs ++ replicate (maxZones - length zs) noZone
 
 abbrev pub packed : List BlueZone → Zones
 packed zs = record { list = filled zs; count = length zs; greatest = greatestFrom ZERO zs }

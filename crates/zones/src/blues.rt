@@ -4,7 +4,7 @@ use fixed::least;
 ghost use mathlib.Core.Path.{_≡_};
 ghost use Prim.Native.Nat.{_+_, _<_, _≤_};
 ghost use lib.ListN.{take, getD};
-ghost use Rattle.zones.specs.Zones.{heightOf, whollyBelow, whollyAbove, noBlue, noZone, zoneOf, noZones, pushed, keptIn, readIn, eachIn, familyEdge, familyFrom, nearer, nearestOf, movedFlat, deviceFlat};
+ghost use Rattle.zones.specs.Zones.{maxBlues, maxZones, heightOf, whollyBelow, whollyAbove, noBlue, noZone, zoneOf, noZones, pushed, keptIn, readIn, eachIn, familyEdge, familyFrom, nearer, nearestOf, movedFlat, deviceFlat};
 
 // How many pairs a list has at most, how many of the other blues count, and how many zones that makes.
 pub const MAX_BLUES: usize = 7;
@@ -160,7 +160,7 @@ impl Zones {
 
     // One zone more.
     pub(crate) fn push(self, zone: BlueZone, height: Fixed) -> Zones
-        requires { ⌜ self .count < 12 ⌝ }
+        requires { ⌜ self .count < maxZones ⌝ }
         ensures { λ r. ⌜ r ≡ pushed self zone height ⌝ }
     {
         let mut zones = self;
@@ -174,7 +174,7 @@ impl Zones {
 
     // From `build_zones`: a pair is kept unless its height is negative. The first zone of all is a bottom zone, and so is every zone of the other blues.
     pub(crate) fn keep(self, pair: Blue, other: bool) -> Zones
-        requires { ⌜ self .count < 12 ⌝ }
+        requires { ⌜ self .count < maxZones ⌝ }
         ensures { λ r. ⌜ r ≡ keptIn other self pair ⌝ }
     {
         let height = pair.height();
@@ -189,7 +189,7 @@ impl Zones {
 
     // From `build_zones`: the first n pairs of a list.
     pub(crate) fn read(self, blues: Blues, n: usize, other: bool) -> Zones
-        requires { ⌜ (n ≤ 7) × (self .count + n ≤ 12) ⌝ }
+        requires { ⌜ (n ≤ maxBlues) × (self .count + n ≤ maxZones) ⌝ }
         ensures { λ r. ⌜ r ≡ readIn other self (take n (blues .pairs)) ⌝ }
     {
         let mut zones = self;
@@ -209,7 +209,7 @@ impl Zones {
         scale: Fixed,
         boost: Fixed,
     ) -> Zones
-        requires { ⌜ self .count ≤ 12 ⌝ }
+        requires { ⌜ self .count ≤ maxZones ⌝ }
         ensures { λ r. ⌜ r ≡ eachIn (λ z. deviceFlat scale boost (movedFlat others blues limit z)) self ⌝ }
     {
         let mut zones = self;
@@ -241,7 +241,7 @@ impl Nearest {
 impl Blues {
     // The edge of pair i that a family gives: the top for bottom zones, the bottom for top zones.
     pub(crate) fn edge(self, i: usize, bottom: bool) -> Fixed
-        requires { ⌜ i < 7 ⌝ }
+        requires { ⌜ i < maxBlues ⌝ }
         ensures { λ r. ⌜ r ≡ familyEdge bottom (getD (self .pairs) i noBlue) ⌝ }
     {
         let pair = self.pairs[i];
