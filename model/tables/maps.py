@@ -79,7 +79,7 @@ def map_row(scale, given, first, then, reasons):
 
 
 def maps():
-    """A scale, whether the initial map is given, its stems, the map's, and why some of these drop."""
+    """A scale, whether the initial map is given, its stems, the map's, why some of these drop."""
     over = Stem(*ghost_top(200 * ONE))
     touching = Stem(50 * ONE, 100 * ONE - 1)
     stems = [free(100, 200), free(100, 150), over, ghost(150), free(50, 100), touching, Stem(LOW, HIGH)]
