@@ -6,10 +6,11 @@ Two commands, from the repository's root:
     python3 -m model --check    writes nothing; says of each file whether it is what would be made,
                                 'same' or 'differs', and ends with status 1 if one differs
 
-Both first hold the model to the figures that 01 marks and to its whole case (tables/marked.py). The
-check also holds the counts of rows in each crate's `stdout` to the tables; the rest of such a text
-is its program's. Where each table goes stands in __main__.py and nowhere else. Python 3.9 or later
-will do, with nothing beside it.
+Both first hold the model to the figures that 01 marks and to its whole case (tables/marked.py), and
+to all that is worked by hand; where it differs nothing is written. The check also holds the counts
+of rows in each crate's `stdout` to the tables; the rest of such a text is its program's. Where each
+table goes stands in __main__.py and nowhere else. Python 3.9 or later will do, with nothing beside
+it.
 
 The model, each part over those before it:
 

@@ -46,41 +46,57 @@ def holds_to_01():
     return not differing
 
 
-def checked(stored, tables):
-    """Whether a file is what its tables make, and whether the counts in `stdout` are theirs."""
-    path, text = stored.path(stored.file), stored.path("stdout")
-    same = path.is_file() and path.read_bytes() == file_of(tables)
-    say(path, "same" if same else "differs")
-    first = stored.counts_before
-    counts = [int(count) for count in re.findall(r": (\d+) run", text.read_text())]
-    counted = counts[first : first + len(tables)] == [len(rows) for rows in tables]
-    say(text, "same counts of rows" if counted else "differs in its counts of rows")
+def tables_of(stored):
+    """Its tables, or None if the model differs from a row that is written by hand."""
+    try:
+        return stored.maker.tables()
+    except Disagreement as found:
+        say(stored.path(stored.file), f"can't be made: {found}")
+        return None
+
+
+def is_stored(stored, tables):
+    path = stored.path(stored.file)
+    return path.is_file() and path.read_bytes() == file_of(tables)
+
+
+def counts_rows(stored, tables):
+    """Whether the counts in `stdout` are those of the tables."""
+    counts = [int(count) for count in re.findall(r": (\d+) run", stored.path("stdout").read_text())]
+    return counts[stored.counts_before :][: len(tables)] == [len(rows) for rows in tables]
+
+
+def check(stored, tables):
+    """Whether the file and the counts are what the tables make."""
+    same, counted = is_stored(stored, tables), counts_rows(stored, tables)
+    say(stored.path(stored.file), "same" if same else "differs")
+    say(stored.path("stdout"), "same counts of rows" if counted else "differs in its counts of rows")
     return same and counted
 
 
-def written(stored, tables):
-    path, data = stored.path(stored.file), file_of(tables)
-    if path.is_file() and path.read_bytes() == data:
+def write(stored, tables):
+    path = stored.path(stored.file)
+    if is_stored(stored, tables):
         say(path, "same")
     else:
-        path.write_bytes(data)
+        path.write_bytes(file_of(tables))
         say(path, "written")
-    return True
 
 
 def main(arguments):
+    """Answers the status. A model that differs from 01, or from what is by hand, writes nothing."""
     if arguments not in ([], ["--check"]):
         print("python3 -m model [--check]")
         return 2
-    if not holds_to_01():
+    fine = holds_to_01()
+    made = [(stored, tables_of(stored)) for stored in STORED]
+    if arguments:
+        return 0 if all([tables is not None and check(stored, tables) for stored, tables in made]) and fine else 1
+    if not fine or None in [tables for _, tables in made]:
         return 1
-    try:
-        made = [(stored, stored.maker.tables()) for stored in STORED]
-    except Disagreement as found:
-        print(f"a row can't be made: {found}")
-        return 1
-    finish = checked if arguments else written
-    return 0 if all([finish(stored, tables) for stored, tables in made]) else 1
+    for stored, tables in made:
+        write(stored, tables)
+    return 0
 
 
 if __name__ == "__main__":

@@ -4,10 +4,10 @@ Each call with records has its words beside it, or None where it is refused; no 
 program. The model is compared with them.
 """
 
-from ..calls import BAD_BLUES, BAD_SCALE, LINE, MOVE, NO_ROOM, OK
+from ..calls import BAD_BLUES, BAD_SCALE, HINTING, LINE, MOVE, NO_ROOM, OK, opened
 from ..numbers import ONE
 from .calls_form import (
-    ALL, AMPLE, CLEARS, CLOSES, counter_mask, curve, finish, hint_mask, line, model_row, move, row_of, stem
+    ALL, AMPLE, CLEARS, CLOSES, answers_of, counter_mask, curve, finish, hint_mask, line, move, row_of, stem
 )
 from .fonts import PLAIN, font
 from .form import agree
@@ -130,12 +130,18 @@ def openings():
     yield font([(-10, 11)], eight), 2048, BAD_BLUES, calls
 
 
+def answer(call, words):
+    """What a call answers: its number and the words, or nothing."""
+    if call[0] in HINTING:
+        return None
+    return [NO_ROOM, []] if words is None else [OK, words]
+
+
 def worked_row(params, scale, number, steps):
-    calls = [call for call, _ in steps]
-    said = [[NO_ROOM, []] if words is None else [OK, words] for _, words in steps]
-    made = row_of(params, scale, number, calls, said)
-    agree(made, model_row(params, scale, calls), calls)
-    return made
+    calls, answers = [call for call, _ in steps], [answer(*step) for step in steps]
+    agree(number, opened(params, scale)[0], (params, scale))
+    agree(answers, answers_of(params, scale, calls), calls)
+    return row_of(params, scale, number, calls, answers)
 
 
 def table():
