@@ -1,4 +1,4 @@
-// Captures of stems' edges by zones. vectors_zones.py takes the expected values from model.py, which is written from 01.
+// Captures of stems' edges by zones. The expected values are those of model/zones.py.
 use crate::tables;
 use crate::tables::Rows;
 use fixed::Fixed;

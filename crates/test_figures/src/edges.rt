@@ -1,4 +1,4 @@
-// Stems' edges. vectors_stems.py takes the expected values from model.py, which is written from 01.
+// Stems' edges. The expected values are those of model/stems.py.
 use crate::tables;
 use crate::tables::Rows;
 use stems::Hint;

@@ -1,5 +1,5 @@
-// The operations of 16.16 numbers. vectors.py works the expected bits out in exact fractions, and no other code of the
-// project takes part.
+// The operations of 16.16 numbers. The expected bits are worked out in exact fractions, by
+// model/numbers.py.
 use crate::tables;
 use crate::tables::Rows;
 use fixed::Fixed;

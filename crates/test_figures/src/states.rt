@@ -1,4 +1,4 @@
-// Zones. vectors_zones.py takes the expected values from model.py, which is written from 01.
+// Zones. The expected values are those of model/zones.py.
 use crate::tables;
 use crate::tables::Rows;
 use zones::BlueZone;

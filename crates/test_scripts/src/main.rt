@@ -10,9 +10,9 @@ fn main() {
     sample();
 }
 
-// `python3 vectors_script.py > data/scripts.bin` makes this file. The answers of the first table are worked by hand from
-// 01. Numbers and places of the next eight are written by hand from its table; the rest comes from model_script.py, which
-// is written from 01.
+// `python3 -m model` makes this file, from model/tables/scripts.py. The answers of the first table are worked by hand
+// from 01. Numbers and places of the next eight are written by hand from its table; the rest comes from
+// model/script.py.
 fn tables() {
     let file = os::open_read(b"scripts.bin");
     if file < 0 {

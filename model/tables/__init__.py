@@ -1,0 +1,1 @@
+"""The rows of the stored tables."""

@@ -1,0 +1,74 @@
+"""Scripts without a fault, made by hand. Others are made from them by changes."""
+
+from ..calls import CLEAR, CLOSE, COUNTER_MASK, CURVE, FINISH, HINT_MASK, LINE, MOVE, STEM
+from ..numbers import ONE, bits
+from ..script import HEADER_WORDS, OPERANDS, SCRIPT_VERSION, words_of
+from . import fonts
+from .fonts import PLAIN, font, param_words
+from .marked import WHOLE_SCRIPT
+
+
+def command(kind, *operands):
+    """A command in whole units or parts of one; the operands of a mask as they are."""
+    return [kind, *(operands if kind in (HINT_MASK, COUNTER_MASK) else bits(*operands))]
+
+
+def script_of(params, scale, *commands, masks=()):
+    params = param_words(params)
+    words = [word for parts in commands for word in command(*parts)]
+    first = HEADER_WORDS + len(params)
+    header = [SCRIPT_VERSION, scale, HEADER_WORDS, len(params), first, len(words), first + len(words), len(masks)]
+    return [*header, *params, *words, *words_of(padded_bytes(masks))]
+
+
+def padded_bytes(data):
+    return bytes(data) + bytes(-len(data) % 4)
+
+
+WHOLE = WHOLE_SCRIPT
+# No commands and no mask bytes.
+EMPTY = script_of(PLAIN, ONE)
+# Every kind of command, every list of pairs, and five mask bytes, at 70 and 71.
+LETTER = script_of(
+    fonts.FAMILY,
+    2100,
+    (STEM, -3, 41), (STEM, 430, 485), (HINT_MASK, 0, 1), (COUNTER_MASK, 1, 2), (MOVE, 7, -2), (LINE, 9, 40.5),
+    (CURVE, 10, 41, 20, 100.25, 30, 484), (HINT_MASK, 3, 2), (LINE, 31, 483), (CLOSE,), (CLEAR,), (STEM, 100, 180),
+    (MOVE, 0, 140), (CLOSE,), (FINISH,), (FINISH,),
+    masks=[0x80, 0xC0, 0x01, 0x40, 0xFF],
+)
+# Where the kinds of its commands stand.
+LETTER_KINDS = [28, 31, 34, 37, 40, 43, 46, 53, 56, 59, 60, 61, 64, 67, 68, 69]
+# Masks between points, a mask of all bytes and more, and one of none; 14 mask bytes.
+MASKED = script_of(
+    PLAIN,
+    2048,
+    (STEM, 16, 80), (STEM, 32, 96), (STEM, 300, 279), (MOVE, 0, 48), (HINT_MASK, 1, 1), (LINE, 32, 48),
+    (HINT_MASK, 14, 0), (LINE, 64, 48), (COUNTER_MASK, 0, 1), (HINT_MASK, 0, 13), (LINE, 96, 48), (FINISH,),
+    masks=[0x40, 0x80, *range(2, 14)],
+)
+# Lines that wait and that are dropped, moves that close, commands after finish; one mask byte.
+PATHS = script_of(
+    font([(-10, 0)]),
+    ONE // 4,
+    (LINE, 1, 2), (LINE, 3, 4), (FINISH,), (MOVE, 5, 6), (LINE, 7, 8), (LINE, 5, 6), (MOVE, 9, 10), (LINE, 1, 2),
+    (CURVE, 1, 2, 3, 4, 5, 6), (LINE, 8, 8), (FINISH,), (MOVE, 1, 1), (CLOSE,), (FINISH,),
+    masks=[0x80],
+)
+# Seven pairs in each list: the most words of parameters.
+FULL = script_of(
+    fonts.FULL, 2597, (STEM, -15, 30), (STEM, 200, 289), (MOVE, 1, -15), (LINE, 2, 285), (LINE, 3, 100), (FINISH,)
+)
+# Em-box hints.
+BOX = script_of(
+    fonts.EM_BOX, 3000, (STEM, -119, -60), (STEM, 820, 879), (MOVE, 0, -119), (MOVE, 0, 860), (FINISH,)
+)
+# Each kind that has operands, last. Every mask has no bytes.
+LAST = {
+    kind: script_of(PLAIN, ONE, (FINISH,), (kind, *[0] * count)) for kind, count in OPERANDS.items() if count
+}
+# A hint mask, a line, a counter mask and a close, at 28, 31, 34 and 37; five mask bytes.
+FAULTY = script_of(
+    fonts.FAMILY, 2100, (HINT_MASK, 0, 1), (LINE, 1, 1), (COUNTER_MASK, 1, 2), (CLOSE,), masks=[1, 2, 3, 4, 5]
+)
+GOOD = [WHOLE, EMPTY, LETTER, MASKED, PATHS, FULL, BOX, *LAST.values(), FAULTY]
