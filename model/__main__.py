@@ -26,10 +26,10 @@ class Stored:
 
 
 STORED = [
-    Stored(figures, "figures", "stdin"),
-    Stored(maps, "figures_map", "stdin", counts_before=1),
-    Stored(calls, "figures_calls", "stdin"),
-    Stored(scripts, "replay", "data/scripts.bin"),
+    Stored(figures, "test_figures", "stdin"),
+    Stored(maps, "test_maps", "stdin", counts_before=1),
+    Stored(calls, "test_calls", "stdin"),
+    Stored(scripts, "test_scripts", "data/scripts.bin"),
 ]
 
 

@@ -5,9 +5,9 @@ use Rattle.stems.specs.declared.mask.HintMask.{HintMask}
 use Rattle.zones.specs.declared.state.HintState.{HintState}
 use Rattle.hintmap.specs.declared.map.HintMap.{HintMap}
 use Rattle.stems.specs.declared.edge.Stems.{Stems}
-use Rattle.build.specs.declared.build_map.Built.{Built}
-use Rattle.build.proofs.build_initial.build_initial.Reads as build-initial-reads
-use Rattle.build.proofs.build_map.build_map.Reads as build-map-reads
+use Rattle.build.specs.declared.map.Built.{Built}
+use Rattle.build.proofs.initial.build_initial.Reads as build-initial-reads
+use Rattle.build.proofs.map.build_map.Reads as build-map-reads
 
 module _ (κs : Lfts 0) (st : HintState) (ss : Stems) where
   pub build-initial-unique : (r r′ : HintMap) → build-initial-reads.Post κs (st, (ss, tt)) r (st, (ss, tt)) → build-initial-reads.Post κs (st, (ss, tt)) r′ (st, (ss, tt)) → r ≡ r′

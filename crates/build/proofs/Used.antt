@@ -13,7 +13,7 @@ use Rattle.zones.specs.declared.state.HintState.{HintState}
 use Rattle.hintmap.specs.declared.map.HintMap.{HintMap}
 use Rattle.hintmap.specs.Map.{view}
 use Rattle.stems.specs.declared.edge.Stems.{Stems}
-use Rattle.build.specs.declared.build_map.Built.{Built}
+use Rattle.build.specs.declared.map.Built.{Built}
 use Rattle.build.specs.Build.{builtOf}
 use Rattle.build.proofs.Saved.{stemAt, Keeps, saved-keeps, Uses, saved-used, heightOf, Bears, saved-heights}
 use Rattle.build.proofs.Once.{once, numbered}

@@ -14,7 +14,7 @@ use Rattle.hintmap.specs.Map.{newMap, validMap, view}
 use Rattle.adjust.specs.Second.{adjustOf}
 use Rattle.build.specs.declared.place.Placed.{Placed}
 use Rattle.stems.specs.declared.edge.Stems.{Stems}
-use Rattle.build.specs.declared.build_map.Built.{Built}
+use Rattle.build.specs.declared.map.Built.{Built}
 use Rattle.build.specs.Ghosts.{emBoxed, baselined}
 use Rattle.build.specs.Place.{declaredIn, lockedTurns, freeTurns}
 

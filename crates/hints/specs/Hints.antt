@@ -12,7 +12,7 @@ use Rattle.zones.specs.declared.state.HintState.{HintState}
 use Rattle.hintmap.specs.declared.map.HintMap.{HintMap}
 use Rattle.hintmap.specs.Map.{newMap, invalidMap, view, mapOf}
 use Rattle.stems.specs.declared.edge.Stems.{Stems}
-use Rattle.build.specs.declared.build_map.Built.{Built}
+use Rattle.build.specs.declared.map.Built.{Built}
 use Rattle.build.specs.Build.{initialOf, builtOf}
 use Rattle.pen.specs.declared.strokes.Point.{Point}
 use Rattle.hints.specs.declared.hints.Hints.{Hints}

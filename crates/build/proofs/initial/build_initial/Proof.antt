@@ -4,8 +4,8 @@ use Rattle.hintmap.proofs.WholeStems.{Good}
 use Rattle.build.specs.Build.{initialPlaced, initialOf}
 use Rattle.build.proofs.Sound.{initial-placed-good, baselined-good}
 use borrow.Author.Needs.{needs}
-use Rattle.build.proofs.build_initial.build_initial.Statement.{statement}
-use Rattle.build.proofs.build_initial.build_initial.Tie as tie
+use Rattle.build.proofs.initial.build_initial.Statement.{statement}
+use Rattle.build.proofs.initial.build_initial.Tie as tie
 
 -- what the first round leaves
 module _ (c : tie.After-place-locked) where

@@ -5,8 +5,8 @@ use Rattle.build.specs.declared.place.Placed.{Placed}
 use Rattle.build.specs.Build.{placedOf, builtOf}
 use Rattle.build.proofs.Sound.{placed-good, adjust-good}
 use borrow.Author.Needs.{needs}
-use Rattle.build.proofs.build_map.build_map.Statement.{statement}
-use Rattle.build.proofs.build_map.build_map.Tie as tie
+use Rattle.build.proofs.map.build_map.Statement.{statement}
+use Rattle.build.proofs.map.build_map.Tie as tie
 
 -- what both rounds leave
 module _ (c : tie.After-place-free) where
