@@ -1,0 +1,203 @@
+/* Measures how deep a call of the static library goes down the stack. The call runs on a stack of
+   its own that is filled with a pattern; the deepest byte that no longer holds the pattern says how
+   much was used. The scripts are those of the files that are named, tables as crates/replay reads
+   them, and demanding ones that are made here: full lists of pairs, more stems than are kept, masks
+   that change between all strokes, and paths up to the longest script. */
+#include <stdint.h>
+#include <stdio.h>
+#include <stdlib.h>
+#include <string.h>
+#include <ucontext.h>
+
+#include "spoonglacier.h"
+
+enum { stack_bytes = 1 << 20, pattern = 0xA5, one = SPOONGLACIER_ONE, most_words = SPOONGLACIER_MOST_SCRIPT_BYTES / 4 };
+enum { room = 2 * most_words, case_words = 6, most_case_bytes = 1 << 17 };
+
+static uint8_t stack[stack_bytes] __attribute__((aligned(64)));
+static ucontext_t back, there;
+
+/* The call that is to be run, and its answer. */
+static const uint8_t *script;
+static size_t script_bytes, out_words, place;
+static int32_t out[room];
+static uint32_t answer;
+
+static void stop(const char *why) {
+    fprintf(stderr, "stack: %s\n", why);
+    exit(1);
+}
+
+static void call(void) {
+    answer = spoonglacier_run(script, script_bytes, out, out_words, &place);
+}
+
+static void run(const uint8_t *bytes, size_t count, size_t words) {
+    script = bytes;
+    script_bytes = count;
+    out_words = words;
+    if (getcontext(&there) != 0)
+        stop("no context");
+    there.uc_stack.ss_sp = stack;
+    there.uc_stack.ss_size = stack_bytes;
+    there.uc_link = &back;
+    makecontext(&there, call, 0);
+    if (swapcontext(&back, &there) != 0)
+        stop("no context");
+}
+
+static void paint(void) {
+    memset(stack, pattern, stack_bytes);
+}
+
+/* The bytes from the top of the stack down to the deepest one that was written. */
+static size_t used(void) {
+    size_t at = 0;
+    while (at < stack_bytes && stack[at] == pattern)
+        at++;
+    return stack_bytes - at;
+}
+
+/* The deepest call so far, over all groups of scripts. */
+static size_t deepest;
+
+static void report(const char *name, int scripts, int fine) {
+    size_t bytes = used();
+    if (bytes > deepest)
+        deepest = bytes;
+    printf("%s: %d scripts, %d of them OK, %zu bytes\n", name, scripts, fine, bytes);
+}
+
+/* ---- stored scripts */
+static uint32_t word(FILE *file) {
+    uint8_t b[4];
+    if (fread(b, 1, 4, file) != 4)
+        stop("a table is cut off");
+    return b[0] | (uint32_t)b[1] << 8 | (uint32_t)b[2] << 16 | (uint32_t)b[3] << 24;
+}
+
+static void stored(const char *name) {
+    static uint8_t bytes[most_case_bytes];
+    int scripts = 0, fine = 0, next;
+    FILE *file = fopen(name, "rb");
+    if (!file)
+        stop(name);
+    paint();
+    while ((next = getc(file)) != EOF) {
+        ungetc(next, file);
+        for (uint32_t left = word(file); left > 0; left--) {
+            uint32_t header[case_words];
+            for (int i = 0; i < case_words; i++)
+                header[i] = word(file);
+            uint32_t length = header[0], words = header[1], padded = (length + 3) / 4 * 4;
+            if (padded > most_case_bytes || words > room || fread(bytes, 1, padded, file) != padded)
+                stop("a case is cut off or too large");
+            run(bytes, length, words);
+            if (fseek(file, 4 * (long)words, SEEK_CUR) != 0)
+                stop("a case is cut off");
+            scripts++;
+            fine += answer == SPOONGLACIER_OK;
+        }
+    }
+    fclose(file);
+    report(name, scripts, fine);
+}
+
+/* ---- scripts that are made here */
+static int32_t words[most_words];
+static int32_t count;
+
+static void put(int32_t w) {
+    words[count++] = w;
+}
+
+static void put3(int32_t kind, int32_t a, int32_t b) {
+    put(kind);
+    put(a);
+    put(b);
+}
+
+static void parameters(int group, int pairs, int step) {
+    int32_t lists = 4, at = SPOONGLACIER_HEADER_WORDS + SPOONGLACIER_PARAMETER_WORDS + 2 * lists * pairs;
+    int32_t header[] = {1, 0, SPOONGLACIER_HEADER_WORDS, at - SPOONGLACIER_HEADER_WORDS, at, 0, 0, 0};
+    int32_t fixed[] = {2597, 7 * one, one, group, pairs, pairs, pairs, pairs};
+    count = 0;
+    for (int i = 0; i < SPOONGLACIER_HEADER_WORDS; i++)
+        put(header[i]);
+    for (int i = 0; i < SPOONGLACIER_PARAMETER_WORDS; i++)
+        put(fixed[i]);
+    for (int i = 0; i < lists * pairs; i++) {
+        put(step * i * one);
+        put((step * i + 10) * one);
+    }
+}
+
+/* Stems, then masks and strokes in turn until the script is full. */
+static void commands(int stems, int step, int width, int masked) {
+    int32_t first = words[4], end = most_words - 64, turn = 0;
+    for (int i = 0; i < stems; i++)
+        put3(SPOONGLACIER_STEM, step * i * one, (step * i + width) * one);
+    while (count < end) {
+        int32_t y = (turn * 37 % 2000 - 100) * one;
+        if (masked) {
+            put3(SPOONGLACIER_COUNTER_MASK, turn % 13, SPOONGLACIER_MASK_BYTES);
+            put3(SPOONGLACIER_HINT_MASK, turn % 17, SPOONGLACIER_MASK_BYTES + turn % 2);
+        }
+        put3(SPOONGLACIER_MOVE, turn * one, y);
+        put3(SPOONGLACIER_LINE, 3 * one, y + 5 * one);
+        put(SPOONGLACIER_CURVE);
+        for (int i = 0; i < 6; i++)
+            put(y + i * one);
+        put3(SPOONGLACIER_LINE, 5 * one, y);
+        put(SPOONGLACIER_CLOSE);
+        if (turn++ % 50 == 49) {
+            put(SPOONGLACIER_CLEAR);
+            for (int i = 0; i < stems && count < end; i++)
+                put3(SPOONGLACIER_STEM, step * i * one, (step * i + width) * one);
+        }
+    }
+    put(SPOONGLACIER_FINISH);
+    words[5] = count - first;
+    words[6] = count;
+}
+
+/* Thirty-two mask bytes, most of them with many bits. */
+static void masks(void) {
+    words[7] = 32;
+    for (int i = 0; i < 8; i++)
+        put((int32_t)(UINT32_C(0xFFF7BDAF) * (uint32_t)(2 * i + 1)));
+}
+
+static void made(void) {
+    static const int widths[] = {-20, -21, 0, 3, 11, 40, -60};
+    static const int32_t scales[] = {1, 700, 2048, 2597, 65536, 1 << 24};
+    static uint8_t bytes[SPOONGLACIER_MOST_SCRIPT_BYTES];
+    int scripts = 0, fine = 0;
+    paint();
+    for (size_t w = 0; w < sizeof widths / sizeof *widths; w++)
+        for (size_t s = 0; s < sizeof scales / sizeof *scales; s++)
+            for (int shape = 0; shape < 8; shape++) {
+                int group = shape & 1, pairs = shape & 2 ? SPOONGLACIER_MOST_PAIRS : 0, masked = shape >> 2;
+                parameters(group, pairs, 40);
+                commands(SPOONGLACIER_MOST_STEMS + 4, 12, widths[w], masked);
+                masks();
+                words[1] = scales[s];
+                for (int32_t i = 0; i < count; i++)
+                    for (int k = 0; k < 4; k++)
+                        bytes[4 * i + k] = (uint8_t)((uint32_t)words[i] >> (8 * k));
+                run(bytes, 4 * (size_t)count, room);
+                if (answer != SPOONGLACIER_OK)
+                    stop("a script that is made here is refused");
+                scripts++;
+                fine++;
+            }
+    report("made here", scripts, fine);
+}
+
+int main(int argc, char **argv) {
+    for (int i = 1; i < argc; i++)
+        stored(argv[i]);
+    made();
+    printf("deepest: %zu bytes, of %d that SPOONGLACIER_STACK_BYTES grants\n", deepest, SPOONGLACIER_STACK_BYTES);
+    return deepest <= SPOONGLACIER_STACK_BYTES ? 0 : 1;
+}
