@@ -1,6 +1,6 @@
 /* Measures how deep a call of the static library goes down the stack. The call runs on a stack of
    its own that is filled with a pattern; the deepest byte that no longer holds the pattern says how
-   much was used. The scripts are those of the files that are named, tables as crates/replay reads
+   much was used. The scripts are those of the files that are named, tables as crates/test_scripts reads
    them, and demanding ones that are made here: full lists of pairs, more stems than are kept, masks
    that change between all strokes, and paths up to the longest script. */
 #include <stdint.h>

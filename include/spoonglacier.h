@@ -15,7 +15,7 @@ extern "C" {
 
 /* The version. A name that stands in this file keeps its meaning for good, so a program that builds
    with one version builds with every later one. The first number counts changes of the rules, after
-   which some scripts have other answers (docs/AMENDMENTS.md tells which); the second, releases that
+   which some scripts have other answers (docs/RULES.md tells which); the second, releases that
    add names; the third, all other releases. */
 #define SPOONGLACIER_VERSION_MAJOR 0
 #define SPOONGLACIER_VERSION_MINOR 1
