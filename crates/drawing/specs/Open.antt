@@ -11,12 +11,11 @@ use Rattle.zones.specs.declared.state.HintParams.{HintParams}
 use Rattle.zones.specs.declared.state.HintState.{HintState}
 use Rattle.zones.specs.Zones.{maxBlues, maxZones, noZone}
 use Rattle.zones.specs.State.{stateOf}
-use Rattle.pen.specs.Strokes.{newPen}
 use Rattle.hints.specs.declared.drawing.Drawing.{Drawing}
 use Rattle.drawing.specs.declared.opening.Opening.{Opening}
 use Rattle.drawing.specs.declared.opening.Opening.the-variants.{Ok, BadScale, BadBlues}
 use Rattle.drawing.specs.declared.opening.Opened.{Opened}
-use Rattle.hints.specs.Hints.{newHints}
+use Rattle.hints.specs.Calls.{newDrawing}
 
 -- every list has at most seven pairs
 unfoldable pub countsFit : HintParams → Bool
