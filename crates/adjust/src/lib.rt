@@ -1,4 +1,5 @@
-// Adjusting a map: its hints are moved to whole pixels (`adjust` in hint.rs; 01, "The map", Adjust).
+// Adjusting a map: its hints are moved to whole pixels (`adjust` in hint.rs; 01, "The map",
+// Adjust).
 use fixed::Fixed;
 use hintmap::HintMap;
 use stems::Hint;
@@ -6,7 +7,8 @@ use stems::MAX_HINTS;
 ghost use mathlib.Core.Path.{_≡_};
 ghost use Prim.Native.Nat.{_-_, _<_, _≤_};
 ghost use Rattle.stems.specs.Edge.{maxHints, isPair};
-ghost use Rattle.adjust.specs.Adjust.{toNext, movesOf, besideBy, roomUp, roomDown, choiceOf, noteOf, movedHint, settleOf, rescaledHint};
+ghost use Rattle.adjust.specs.Adjust.{toNext, movesOf, besideBy, roomUp, roomDown, choiceOf, noteOf, movedHint};
+ghost use Rattle.adjust.specs.Adjust.{settleOf, rescaledHint};
 ghost use Rattle.adjust.specs.Pass.{nextPlace, upperBy, lowerBy};
 ghost use Rattle.adjust.specs.Second.{secondPass, adjustOf};
 
@@ -70,7 +72,8 @@ fn smallest(low: Fixed, high: Fixed) -> Moves
     Moves { up, down }
 }
 
-// From `adjust`: whether there is room for an upper edge to move up. A counter keeps half a pixel at least.
+// From `adjust`: whether there is room for an upper edge to move up. A counter keeps half a pixel
+// at least.
 fn room_up(above: Neighbour, high: Fixed, by: Fixed) -> bool
     ensures { λ r. ⌜ r ≡ roomUp above high by ⌝ }
 {
@@ -132,7 +135,8 @@ fn choose(up: bool, down: bool, moves: Moves) -> Choice
     }
 }
 
-// From `adjust`: what is noted. Only an unlocked edge above can make room for a hint that fell short.
+// From `adjust`: what is noted. Only an unlocked edge above can make room for a hint that fell
+// short.
 fn noted(above: Neighbour, short: bool, missing: Fixed) -> Note
     ensures { λ r. ⌜ r ≡ noteOf above short missing ⌝ }
 {
@@ -222,7 +226,8 @@ fn beside(there: bool, edge: Hint) -> Neighbour
     Neighbour::Absent
 }
 
-// From `adjust`: the place of the upper edge of the hint whose lower edge is at i. Above a pair's lower edge there always is one.
+// From `adjust`: the place of the upper edge of the hint whose lower edge is at i. Above a pair's
+// lower edge there always is one.
 fn upper(edge: Hint, i: usize, len: usize) -> usize
     requires { ⌜ i < maxHints ⌝ }
     ensures { λ r. ⌜ r ≡ upperBy (isPair edge) len i ⌝ }
@@ -243,8 +248,8 @@ fn lower(edge: Hint, j: usize) -> usize
     j
 }
 
-// From `adjust`: the second pass, newest note first, lifts hints for which the moves above them have made room. Every note is of an
-// edge of the map. Scales stay.
+// From `adjust`: the second pass, newest note first, lifts hints for which the moves above them
+// have made room. Every note is of an edge of the map. Scales stay.
 fn second_pass(map: HintMap, notes: Notes) -> HintMap
     requires { ⌜ (map .len ≤ maxHints) × (notes .count ≤ maxHints) ⌝ }
     ensures { λ r. ⌜ r ≡ secondPass (notes .count) notes map ⌝ }
@@ -273,7 +278,8 @@ fn second_pass(map: HintMap, notes: Notes) -> HintMap
     after
 }
 
-// Ports `adjust`. The first pass goes upward over the hints and does not look ahead: what it leaves short is noted for the second.
+// Ports `adjust`. The first pass goes upward over the hints and does not look ahead: what it leaves
+// short is noted for the second.
 pub fn adjust(map: HintMap) -> HintMap
     requires { ⌜ map .len ≤ maxHints ⌝ }
     ensures { λ r. ⌜ r ≡ adjustOf map ⌝ }

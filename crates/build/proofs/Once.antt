@@ -1,4 +1,5 @@
--- In a built map a stem has at most one edge of each side, and each edge that is not synthetic is a declared stem's. Assumes nothing.
+-- In a built map a stem has at most one edge of each side, and each edge that is not synthetic is a
+-- declared stem's. Assumes nothing.
 use mathlib.Core.Path.{_≡_, refl, sym, ap, _∙_}
 use mathlib.Core.Bool.{Bool, true, false, not, _&&_, true≢false, false≢true}
 use mathlib.Core.List.{List, [], _∷_, _++_, map}
@@ -23,7 +24,8 @@ use Rattle.hintmap.specs.declared.map.HintMap.{HintMap}
 use Rattle.hintmap.specs.declared.insert.Edges.{Edges}
 use Rattle.hintmap.specs.declared.insert.Edges.the-variants.{One, Two}
 use Rattle.hintmap.specs.Map.{newMap, view}
-use Rattle.hintmap.specs.Insert.{chosenBy, chosen, firstEdge, edgesOf, again, placedBy, putEdges, placeFor, placedFor, insertIn}
+use Rattle.hintmap.specs.Insert.{chosenBy, chosen, firstEdge, edgesOf, again, placedBy, putEdges, placeFor, placedFor}
+use Rattle.hintmap.specs.Insert.{insertIn}
 use Rattle.hintmap.specs.WholeStems.{Made}
 use Rattle.hintmap.proofs.Outcome.{Clear, by-outcome, view-placed}
 use Rattle.hintmap.proofs.WholeStems.{Good, new-good, insert-good}
@@ -35,7 +37,8 @@ use Rattle.stems.specs.declared.edge.Stems.{Stems}
 use Rattle.build.specs.Ghosts.{emBottom, emTop, emBoxed}
 use Rattle.build.specs.Place.{declaredIn, lockedTurn, freeTurn}
 use Rattle.build.specs.Build.{boxedMap, lockedPlaced, placedOf, builtOf}
-use Rattle.build.proofs.Steps.{boxed-keeps, prepared-like, made-prepared, made-box-bottom, locked-cases, free-cases}
+use Rattle.build.proofs.Steps.{boxed-keeps, prepared-like, made-prepared, made-box-bottom, locked-cases}
+use Rattle.build.proofs.Steps.{free-cases}
 use Rattle.build.proofs.Rounds.{locked-round, free-round, round-keeps}
 use Rattle.build.proofs.Saved.{ownedBy, own-true, own-of, Bears}
 
@@ -88,24 +91,29 @@ module _ (top : Bool) (k : ℕ) where
   tally-append : (xs ys : List Hint) → tally top k (xs ++ ys) ≡ tally top k xs + tally top k ys
   unfolding tally
   tally-append [] ys = omega arith
-  tally-append (x ∷ xs) ys = ap (moreBy (bearsBy top k x)) (tally-append xs ys) ∙ more-add (bearsBy top k x) (tally top k xs) (tally top k ys)
+  tally-append (x ∷ xs) ys =
+      ap (moreBy (bearsBy top k x)) (tally-append xs ys) ∙ more-add (bearsBy top k x) (tally top k xs) (tally top k ys)
 
   -- an edge that bears counts, and two count twice
   tally-has : (es : List Hint) (j : ℕ) → j < length es → Bears top k (getD es j noHint) → 1 ≤ tally top k es
   unfolding tally
   tally-has [] j h b = absurd (omega arith)
   tally-has (e ∷ es) zero h b = rw (bears-true top k e b) (omega arith)
-  tally-has (e ∷ es) (suc j) h b = omega (arith, tally-has es j (omega arith) b, more-least (bearsBy top k e) (tally top k es))
+  tally-has (e ∷ es) (suc j) h b =
+      omega (arith, tally-has es j (omega arith) b, more-least (bearsBy top k e) (tally top k es))
 
-  tally-two : (es : List Hint) (i j : ℕ) → i < j → j < length es → Bears top k (getD es i noHint) → Bears top k (getD es j noHint) → 2 ≤ tally top k es
+  tally-two : (es : List Hint) (i j : ℕ) → i < j → j < length es → Bears top k (getD es i noHint) →
+      Bears top k (getD es j noHint) → 2 ≤ tally top k es
   unfolding tally
   tally-two es i zero l h a b = absurd (omega arith)
   tally-two [] i (suc j) l h a b = absurd (omega arith)
   tally-two (e ∷ es) zero (suc j) l h a b = rw (bears-true top k e a) (omega (arith, tally-has es j (omega arith) b))
-  tally-two (e ∷ es) (suc i) (suc j) l h a b = omega (arith, tally-two es i j (omega arith) (omega arith) a b, more-least (bearsBy top k e) (tally top k es))
+  tally-two (e ∷ es) (suc i) (suc j) l h a b =
+      omega (arith, tally-two es i j (omega arith) (omega arith) a b, more-least (bearsBy top k e) (tally top k es))
 
   -- what is placed again counts as before
-  tally-again : (b : Bool) (es : List Hint) (s₀ s : Fixed) (e : Edges) → tally top k (edgesOf (placedBy b es s₀ s e)) ≡ tally top k (edgesOf e)
+  tally-again : (b : Bool) (es : List Hint) (s₀ s : Fixed) (e : Edges) →
+      tally top k (edgesOf (placedBy b es s₀ s e)) ≡ tally top k (edgesOf e)
   unfolding tally again
   tally-again true es s₀ s (One e) = refl
   tally-again true es s₀ s (Two b t) = refl
@@ -115,7 +123,8 @@ module _ (top : Bool) (k : ℕ) where
   tally-insert : (m : HintMap) (e : Edges) (initial : HintMap) (given : Bool) → Good m →
       tally top k (view (insertIn m e initial given)) ≤ tally top k (view m) + tally top k (edgesOf e)
   tally-insert m e initial given g =
-      by-outcome m e initial given (λ (n : HintMap). tally top k (view n) ≤ tally top k (view m) + tally top k (edgesOf e)) (omega arith) put
+      by-outcome m e initial given
+      (λ (n : HintMap). tally top k (view n) ≤ tally top k (view m) + tally top k (edgesOf e)) (omega arith) put
     where
       at : ℕ
       at = placeFor m e
@@ -123,11 +132,20 @@ module _ (top : Bool) (k : ℕ) where
       p : Edges
       p = placedFor m e initial given
 
-      put : Clear m e initial given → tally top k (view (putEdges m at p)) ≤ tally top k (view m) + tally top k (edgesOf e)
+      put : Clear m e initial given →
+          tally top k (view (putEdges m at p)) ≤ tally top k (view m) + tally top k (edgesOf e)
       put c =
-          let cut : tally top k (view m) ≡ tally top k (take at (view m)) + tally top k (drop at (view m)) = ap (tally top k) (sym (take-append-drop at (view m))) ∙ tally-append (take at (view m)) (drop at (view m)) in
-          let same : tally top k (edgesOf p) ≡ tally top k (edgesOf e) = tally-again (not (firstEdge e .locked) && given) (view initial) (initial .scale) (m .scale) e in
-          rw (view-placed m e initial given (g .long) (c .entry), tally-append (take at (view m)) (edgesOf p ++ drop at (view m)), tally-append (edgesOf p) (drop at (view m))) (omega arith)
+          let cut : tally top k (view m) ≡
+          tally top k (take at (view m)) + tally top k (drop at (view m)) = ap (tally top k)
+          (sym (take-append-drop at (view m))) ∙ tally-append (take at (view m)) (drop at (view m)) in
+          let same : tally top k (edgesOf p) ≡
+          tally top k (edgesOf e) = tally-again (not (firstEdge e .locked) && given) (view initial) (initial .scale)
+          (m .scale) e in
+          rw (
+            view-placed m e initial given (g .long) (c .entry),
+            tally-append (take at (view m)) (edgesOf p ++ drop at (view m)),
+            tally-append (edgesOf p) (drop at (view m)),
+          ) (omega arith)
 
   -- one stem has at most one edge of a side
   tally-made : (e : Edges) → Made e → tally top k (edgesOf e) ≤ 1
@@ -136,8 +154,10 @@ module _ (top : Bool) (k : ℕ) where
   tally-made (Two b t) s = go top
     where
       go : (p : Bool) → moreBy (bearsBy p k b) (moreBy (bearsBy p k t) 0) ≤ 1
-      go true = rw (no-bears true k b (λ w. true≢false (sym (w .side) ∙ ap topK (s .bottom)))) (more-one (bearsBy true k t))
-      go false = rw (no-bears false k t (λ w. false≢true (sym (w .side) ∙ ap topK (s .top)))) (more-one (bearsBy false k b))
+      go true =
+          rw (no-bears true k b (λ w. true≢false (sym (w .side) ∙ ap topK (s .bottom)))) (more-one (bearsBy true k t))
+      go false =
+          rw (no-bears false k t (λ w. false≢true (sym (w .side) ∙ ap topK (s .top)))) (more-one (bearsBy false k b))
 
   -- two edges that are not counted add nothing
   tally-chosen : (b t : Hint) → (Bears top k b → ⊥) → (Bears top k t → ⊥) → tally top k (edgesOf (chosen b t)) ≡ 0
@@ -160,7 +180,8 @@ module _ (top : Bool) (k : ℕ) where
   tally-adjust m =
       let a = adjust-kept m in
       let n = m .len in
-      rw (a .len) (sym (tally-still n (adjustOf m .edges)) ∙ ap (λ (es : List Hint). tally top k (take n es)) (a .edges) ∙ tally-still n (m .edges))
+      rw (a .len) (sym (tally-still n (adjustOf m .edges)) ∙
+      ap (λ (es : List Hint). tally top k (take n es)) (a .edges) ∙ tally-still n (m .edges))
 
 -- ---- through a build
 -- a map in order, which has at most one edge of a side for each stem, and none for the stems of Q
@@ -175,7 +196,8 @@ module _ (Q R : ℕ → Type 0) (m : HintMap) (has : Places Q m) where
   places-fewer f = record { order = has .order; most = has .most; none = λ top k r. has .none top k (f k r) }
 
   -- with the edges of a stem that had none
-  places-more : (i : ℕ) (b t : Hint) → b .index ≡ i → t .index ≡ i → Made (chosen b t) → Q i → (R i → ⊥) → ((k : ℕ) → (k ≡ i → ⊥) → R k → Q k) →
+  places-more : (i : ℕ) (b t : Hint) → b .index ≡ i → t .index ≡ i → Made (chosen b t) → Q i → (R i → ⊥) →
+      ((k : ℕ) → (k ≡ i → ⊥) → R k → Q k) →
       (initial : HintMap) (given : Bool) → Places R (insertIn m (chosen b t) initial given)
   places-more i b t p q made new old keep initial given =
       record {
@@ -186,18 +208,23 @@ module _ (Q R : ℕ → Type 0) (m : HintMap) (has : Places Q m) where
             omega (arith, add top k, other top k d, has .none top k (keep k d r));
       }
     where
-      add : (top : Bool) (k : ℕ) → tally top k (view (insertIn m (chosen b t) initial given)) ≤ tally top k (view m) + tally top k (edgesOf (chosen b t))
+      add : (top : Bool) (k : ℕ) →
+          tally top k (view (insertIn m (chosen b t) initial given)) ≤ tally top k (view m) + tally top k
+          (edgesOf (chosen b t))
       add top k = tally-insert top k m (chosen b t) initial given (has .order)
 
       other : (top : Bool) (k : ℕ) → (k ≡ i → ⊥) → tally top k (edgesOf (chosen b t)) ≡ 0
       other top k d = tally-chosen top k b t (λ w. d (sym (w .own .number) ∙ p)) (λ w. d (sym (w .own .number) ∙ q))
 
-      go : (top : Bool) (k : ℕ) (x : Bool) → eqb k i ≡ x → tally top k (view (insertIn m (chosen b t) initial given)) ≤ 1
-      go top k true e = omega (arith, add top k, tally-made top k (chosen b t) made, has .none top k (rw (eqb-true k i e) new))
+      go : (top : Bool) (k : ℕ) (x : Bool) → eqb k i ≡ x →
+          tally top k (view (insertIn m (chosen b t) initial given)) ≤ 1
+      go top k true e =
+          omega (arith, add top k, tally-made top k (chosen b t) made, has .none top k (rw (eqb-true k i e) new))
       go top k false e = omega (arith, add top k, other top k (eqb-false k i e), has .most top k)
 
 -- the em box is of no stem
-boxed-none : (wanted : Bool) (initial : HintMap) (given : Bool) (s : Fixed) (top : Bool) (k : ℕ) → tally top k (view (emBoxed wanted initial given (newMap s))) ≡ 0
+boxed-none : (wanted : Bool) (initial : HintMap) (given : Bool) (s : Fixed) (top : Bool) (k : ℕ) →
+    tally top k (view (emBoxed wanted initial given (newMap s))) ≡ 0
 unfolding tally emBoxed emBottom emTop chosen
 boxed-none true initial given s top k =
     let low = chosen (emBottom s) noHint in
@@ -205,14 +232,20 @@ boxed-none true initial given s top k =
     let one = insertIn (newMap s) low initial given in
     let a : tally top k (edgesOf low) ≡ 0 = refl in
     let b : tally top k (edgesOf high) ≡ 0 = refl in
-    omega (arith, tally-insert top k (newMap s) low initial given (new-good s), tally-insert top k one high initial given (insert-good (newMap s) low initial given (made-box-bottom s) (new-good s)))
+    omega (
+      arith,
+      tally-insert top k (newMap s) low initial given (new-good s),
+      tally-insert top k one high initial given
+          (insert-good (newMap s) low initial given (made-box-bottom s) (new-good s)),
+    )
 boxed-none false initial given s top k = refl
 
 -- in the first round the stems from i on have no edge yet, nor have those that are not handled
 abbrev Waits : ℕ → HintMask → ℕ → Type 0
 Waits i rest k = (i ≤ k) ⊎ (isActive rest k ≡ true)
 
-locked-places : (st : HintState) (initial : HintMap) (given : Bool) (i : ℕ) (x : StemHint) (p : Placed) → Places (Waits i (p .rest)) (p .map) →
+locked-places : (st : HintState) (initial : HintMap) (given : Bool) (i : ℕ) (x : StemHint) (p : Placed) →
+    Places (Waits i (p .rest)) (p .map) →
     let q = lockedTurn st initial given p i x in
     Places (Waits (suc i) (q .rest)) (q .map)
 locked-places st initial given i x p has =
@@ -220,26 +253,31 @@ locked-places st initial given i x p has =
     (places-fewer (Waits i (p .rest)) (Waits (suc i) (p .rest)) (p .map) has (λ k. ⊎-elim (λ h. inl (omega arith)) inr))
     st given
     (λ e. places-more (Waits i (p .rest)) (Waits (suc i) (cleared (p .rest) i)) (p .map) has i _ _
-    (sym (prepared-like st x i .0 .index) ∙ setup-index x i (st .scale) Bottom) (sym (prepared-like st x i .1 .index) ∙ setup-index x i (st .scale) Top)
+    (sym (prepared-like st x i .0 .index) ∙ setup-index x i (st .scale) Bottom)
+    (sym (prepared-like st x i .1 .index) ∙ setup-index x i (st .scale) Top)
     (made-prepared st x i) (inl (le-refl i))
     (⊎-elim (λ h. omega arith) (λ a. true≢false (sym a ∙ clear-off (p .rest) i)))
     (λ k d. ⊎-elim (λ h. inl (omega arith)) (λ a. inr (sym (clear-keeps (p .rest) i k (λ w. d (sym w))) ∙ a)))
     initial given)
 
--- in the second those from i on that are not handled have none yet, and those past the n that are declared have none
+-- in the second those from i on that are not handled have none yet, and those past the n that are
+-- declared have none
 abbrev Awaits : ℕ → ℕ → HintMask → ℕ → Type 0
 Awaits n i rest k = (n ≤ k) ⊎ ((i ≤ k) × (isActive rest k ≡ true))
 
-free-places : (n : ℕ) (st : HintState) (initial : HintMap) (i : ℕ) (x : StemHint) (p : Placed) → i < n → Places (Awaits n i (p .rest)) (p .map) →
+free-places : (n : ℕ) (st : HintState) (initial : HintMap) (i : ℕ) (x : StemHint) (p : Placed) → i < n →
+    Places (Awaits n i (p .rest)) (p .map) →
     let q = freeTurn st initial p i x in
     Places (Awaits n (suc i) (q .rest)) (q .map)
 free-places n st initial i x p l has =
-    let waits : (k : ℕ) → Awaits n (suc i) (p .rest) k → Awaits n i (p .rest) k = λ k. ⊎-elim inl (λ h. inr (omega arith, h .1)) in
+    let waits : (k : ℕ) → Awaits n (suc i) (p .rest) k →
+    Awaits n i (p .rest) k = λ k. ⊎-elim inl (λ h. inr (omega arith, h .1)) in
     free-cases initial p i x (λ (q : Placed). Places (Awaits n (suc i) (q .rest)) (q .map))
     (places-fewer (Awaits n i (p .rest)) (Awaits n (suc i) (p .rest)) (p .map) has waits)
     st
     (λ e. places-more (Awaits n i (p .rest)) (Awaits n (suc i) (p .rest)) (p .map) has i _ _
-    (setup-index x i (st .scale) Bottom) (setup-index x i (st .scale) Top) (made-setup x i (st .scale)) (inr (le-refl i, e)) (⊎-elim (λ h. omega arith) (λ h. omega arith)) (λ k d. waits k) initial true)
+    (setup-index x i (st .scale) Bottom) (setup-index x i (st .scale) Top) (made-setup x i (st .scale))
+    (inr (le-refl i, e)) (⊎-elim (λ h. omega arith) (λ h. omega arith)) (λ k d. waits k) initial true)
 
 module _ (st : HintState) (mask : HintMask) (initial : HintMap) (ss : Stems) where
   abbrev edges : List Hint
@@ -252,7 +290,9 @@ module _ (st : HintState) (mask : HintMask) (initial : HintMap) (ss : Stems) whe
   boxed-places Q =
       let none = boxed-none (st .«do_em_box_hints») initial true (st .scale) in
       record {
-        order = boxed-keeps Good insert-good (st .«do_em_box_hints») initial true (newMap (st .scale)) (new-good (st .scale));
+        order =
+            boxed-keeps Good insert-good (st .«do_em_box_hints») initial true (newMap (st .scale))
+            (new-good (st .scale));
         most = λ top k. omega (arith, none top k);
         none = λ top k q. none top k;
       }
@@ -260,8 +300,12 @@ module _ (st : HintState) (mask : HintMask) (initial : HintMap) (ss : Stems) whe
   built-places : Places (λ (k : ℕ). n ≤ k) (placedOf st mask initial ss)
   built-places =
       let p = lockedPlaced st mask initial ss in
-      let one : Places (Waits n (p .rest)) (p .map) = round-keeps (locked-round st initial true) n (λ (i : ℕ) (q : Placed). Places (Waits i (q .rest)) (q .map)) (λ i x q l. locked-places st initial true i x q) 0 (declaredIn ss) _ (omega arith) (boxed-places _) in
-      let two = round-keeps (free-round st initial) n (λ (i : ℕ) (q : Placed). Places (Awaits n i (q .rest)) (q .map)) (free-places n st initial) 0 (declaredIn ss) p (omega arith) (places-fewer _ _ _ one (λ k. ⊎-elim inl (λ h. inr (h .1)))) in
+      let one : Places (Waits n (p .rest)) (p .map) = round-keeps (locked-round st initial true) n
+      (λ (i : ℕ) (q : Placed). Places (Waits i (q .rest)) (q .map)) (λ i x q l. locked-places st initial true i x q)
+      0 (declaredIn ss) _ (omega arith) (boxed-places _) in
+      let two = round-keeps (free-round st initial) n (λ (i : ℕ) (q : Placed). Places (Awaits n i (q .rest)) (q .map))
+      (free-places n st initial) 0 (declaredIn ss) p (omega arith)
+      (places-fewer _ _ _ one (λ k. ⊎-elim inl (λ h. inr (h .1)))) in
       places-fewer _ _ _ two (λ k. inl)
 
   built-tally : (top : Bool) (k : ℕ) → tally top k edges ≡ tally top k (view (placedOf st mask initial ss))
@@ -269,16 +313,30 @@ module _ (st : HintState) (mask : HintMask) (initial : HintMap) (ss : Stems) whe
   built-tally top k = tally-adjust top k (placedOf st mask initial ss)
 
   -- two edges of one stem that are both tops, or both no tops, stand at one place
-  pub once : (top : Bool) (k i j : ℕ) → i < length edges → j < length edges → Bears top k (getD edges i noHint) → Bears top k (getD edges j noHint) → i ≡ j
+  pub once : (top : Bool) (k i j : ℕ) → i < length edges → j < length edges → Bears top k (getD edges i noHint) →
+      Bears top k (getD edges j noHint) → i ≡ j
   once top k i j h l a b = go (ltb i j) refl (ltb j i) refl
     where
       go : (x : Bool) → ltb i j ≡ x → (y : Bool) → ltb j i ≡ y → i ≡ j
-      go true e y f = absurd (omega (arith, tally-two top k edges i j (ltb-true i j e) l a b, built-tally top k, built-places .most top k))
-      go false e true f = absurd (omega (arith, tally-two top k edges j i (ltb-true j i f) h b a, built-tally top k, built-places .most top k))
+      go true e y f =
+          absurd (omega (
+            arith,
+            tally-two top k edges i j (ltb-true i j e) l a b,
+            built-tally top k,
+            built-places .most top k,
+          ))
+      go false e true f =
+          absurd (omega (
+            arith,
+            tally-two top k edges j i (ltb-true j i f) h b a,
+            built-tally top k,
+            built-places .most top k,
+          ))
       go false e false f = omega (arith, ltb-false i j e, ltb-false j i f)
 
   -- an edge that is not synthetic is a declared stem's
-  pub numbered : (i : ℕ) → i < length edges → getD edges i noHint .synthetic ≡ false → getD edges i noHint .index < length (declaredIn ss)
+  pub numbered : (i : ℕ) → i < length edges → getD edges i noHint .synthetic ≡ false →
+      getD edges i noHint .index < length (declaredIn ss)
   numbered i h s = go (ltb (e .index) n) refl
     where
       e : Hint
@@ -287,4 +345,10 @@ module _ (st : HintState) (mask : HintMask) (initial : HintMap) (ss : Stems) whe
       go : (x : Bool) → ltb (e .index) n ≡ x → e .index < n
       go true w = ltb-true (e .index) n w
       go false w =
-          absurd (omega (arith, tally-has (isTop e) (e .index) edges i h (record { own = record { real = s; number = refl }; side = refl }), built-tally (isTop e) (e .index), built-places .none (isTop e) (e .index) (ltb-false (e .index) n w)))
+          absurd (omega (
+            arith,
+            tally-has (isTop e) (e .index) edges i h
+                (record { own = record { real = s; number = refl }; side = refl }),
+            built-tally (isTop e) (e .index),
+            built-places .none (isTop e) (e .index) (ltb-false (e .index) n w),
+          ))

@@ -20,7 +20,8 @@ use Rattle.build.specs.Build.{noStem, savedStem, savedBy, savedIn, saved
 
 -- ---- the edges one by one
 -- one edge more of those to be saved
-pub save-more : (es : List Hint) (ss : Stems) (i : ℕ) → i < length es → savedAll (drop i es) ss ≡ savedAll (drop (i + 1) es) (savedIn (getD es i noHint) ss)
+pub save-more : (es : List Hint) (ss : Stems) (i : ℕ) → i < length es →
+    savedAll (drop i es) ss ≡ savedAll (drop (i + 1) es) (savedIn (getD es i noHint) ss)
 unfolding savedAll
 save-more es ss i h = rw (add-one, drop-cons es i noHint)
 
@@ -35,7 +36,9 @@ unfolding savedIn
 save-synthetic e ss s = rw s
 
 -- any other edge is, in the stem of its number
-pub save-stem : (e : Hint) (ss : Stems) (s : StemHint) → e .synthetic ≡ false → s ≡ savedStem e (getD (ss .list) (e .index) noStem) → record { list = set (ss .list) (e .index) s; count = ss .count } ≡ savedIn e ss
+pub save-stem : (e : Hint) (ss : Stems) (s : StemHint) → e .synthetic ≡ false →
+    s ≡ savedStem e (getD (ss .list) (e .index) noStem) →
+    record { list = set (ss .list) (e .index) s; count = ss .count } ≡ savedIn e ss
 unfolding savedIn
 save-stem e ss s f q = rw (f, q)
 
@@ -100,7 +103,8 @@ in-count e ss = go (e .synthetic)
     go false = refl
 
 -- an edge changes the stem that owns it, and no other
-in-at : (e : Hint) (ss : Stems) (k : ℕ) → k < length (ss .list) → stemAt (savedIn e ss) k ≡ stepBy (ownedBy k e) e (stemAt ss k)
+in-at : (e : Hint) (ss : Stems) (k : ℕ) → k < length (ss .list) →
+    stemAt (savedIn e ss) k ≡ stepBy (ownedBy k e) e (stemAt ss k)
 unfolding savedIn
 in-at e ss k h = go (e .synthetic) (eqb (e .index) k) refl
   where
@@ -120,7 +124,8 @@ all-count [] ss = refl
 all-count (e ∷ es) ss = all-count es (savedIn e ss) ∙ in-count e ss
 
 -- stem k after all edges
-all-at : (es : List Hint) (ss : Stems) (k : ℕ) → k < length (ss .list) → stemAt (savedAll es ss) k ≡ after k es (stemAt ss k)
+all-at : (es : List Hint) (ss : Stems) (k : ℕ) → k < length (ss .list) →
+    stemAt (savedAll es ss) k ≡ after k es (stemAt ss k)
 unfolding savedAll after
 all-at [] ss k h = refl
 all-at (e ∷ es) ss k h =
@@ -180,24 +185,28 @@ after-used k (e ∷ es) s u = after-used k es (stepBy (ownedBy k e) e s) (go (ow
     go true = refl
     go false = u
 
-after-owned : (k : ℕ) (es : List Hint) (s : StemHint) (i : ℕ) → i < length es → ownedBy k (getD es i noHint) ≡ true → after k es s .«is_used» ≡ true
+after-owned : (k : ℕ) (es : List Hint) (s : StemHint) (i : ℕ) → i < length es → ownedBy k (getD es i noHint) ≡ true →
+    after k es s .«is_used» ≡ true
 unfolding after
 after-owned k [] s i h o = absurd (lt-irrefl 0 (omega arith))
 after-owned k (e ∷ es) s zero h o = after-used k es _ (rw o refl)
 after-owned k (e ∷ es) s (suc i) h o = after-owned k es (stepBy (ownedBy k e) e s) i (omega arith) o
 
-after-from : (k : ℕ) (es : List Hint) (s : StemHint) → after k es s .«is_used» ≡ true → (s .«is_used» ≡ true) ⊎ ((i : ℕ) × Owned k es i)
+after-from : (k : ℕ) (es : List Hint) (s : StemHint) → after k es s .«is_used» ≡ true →
+    (s .«is_used» ≡ true) ⊎ ((i : ℕ) × Owned k es i)
 unfolding after
 after-from k [] s u = inl u
 after-from k (e ∷ es) s u = go (ownedBy k e) refl (after-from k es (stepBy (ownedBy k e) e s) u)
   where
-    go : (t : Bool) → ownedBy k e ≡ t → (stepBy t e s .«is_used» ≡ true) ⊎ ((i : ℕ) × Owned k es i) → (s .«is_used» ≡ true) ⊎ ((i : ℕ) × Owned k (e ∷ es) i)
+    go : (t : Bool) → ownedBy k e ≡ t → (stepBy t e s .«is_used» ≡ true) ⊎ ((i : ℕ) × Owned k es i) →
+        (s .«is_used» ≡ true) ⊎ ((i : ℕ) × Owned k (e ∷ es) i)
     go true q w = inr (0, record { there = omega arith; own = own-of k e q })
     go false q (inl u′) = inl u′
     go false q (inr (i, o)) = inr (suc i, record { there = omega arith; own = o .own })
 
 -- the stems that are used after saving
-pub saved-used : (es : List Hint) (ss : Stems) (k : ℕ) → k < length (ss .list) → Uses es k (stemAt ss k) (stemAt (savedAll es ss) k)
+pub saved-used : (es : List Hint) (ss : Stems) (k : ℕ) → k < length (ss .list) →
+    Uses es k (stemAt ss k) (stemAt (savedAll es ss) k)
 saved-used es ss k h =
     rw (all-at es ss k h)
     (record {
@@ -223,11 +232,13 @@ pub record LastOf (top : Bool) (k : ℕ) (es : List Hint) (i : ℕ) : Type 0 whe
   pub last : (j : ℕ) → i < j → j < length es → Bears top k (getD es j noHint) → ⊥
 
 -- an edge of the stem on that side gives its height, and any other leaves the height
-step-height : (top : Bool) (k : ℕ) (e : Hint) (s : StemHint) → Bears top k e → heightOf top (stepBy (ownedBy k e) e s) ≡ e .«ds_coord»
+step-height : (top : Bool) (k : ℕ) (e : Hint) (s : StemHint) → Bears top k e →
+    heightOf top (stepBy (ownedBy k e) e s) ≡ e .«ds_coord»
 step-height true k e s b = rw (own-true k e (b .own), b .side)
 step-height false k e s b = rw (own-true k e (b .own), b .side)
 
-step-keeps : (top : Bool) (k : ℕ) (e : Hint) (s : StemHint) → (Bears top k e → ⊥) → heightOf top (stepBy (ownedBy k e) e s) ≡ heightOf top s
+step-keeps : (top : Bool) (k : ℕ) (e : Hint) (s : StemHint) → (Bears top k e → ⊥) →
+    heightOf top (stepBy (ownedBy k e) e s) ≡ heightOf top s
 step-keeps top k e s n = go top (ownedBy k e) (isTop e) refl refl n
   where
     go : (p o t : Bool) → ownedBy k e ≡ o → isTop e ≡ t → (Bears p k e → ⊥) → heightOf p (stepBy o e s) ≡ heightOf p s
@@ -237,20 +248,26 @@ step-keeps top k e s n = go top (ownedBy k e) (isTop e) refl refl n
     go true true false q r m = rw r
     go false true false q r m = absurd (m (record { own = own-of k e q; side = r }))
 
-after-keeps : (top : Bool) (k : ℕ) (es : List Hint) (s : StemHint) → ((j : ℕ) → j < length es → Bears top k (getD es j noHint) → ⊥) → heightOf top (after k es s) ≡ heightOf top s
+after-keeps : (top : Bool) (k : ℕ) (es : List Hint) (s : StemHint) →
+    ((j : ℕ) → j < length es → Bears top k (getD es j noHint) → ⊥) → heightOf top (after k es s) ≡ heightOf top s
 unfolding after
 after-keeps top k [] s n = refl
 after-keeps top k (e ∷ es) s n =
-    after-keeps top k es (stepBy (ownedBy k e) e s) (λ j h. n (suc j) (omega arith)) ∙ step-keeps top k e s (n 0 (omega arith))
+    after-keeps top k es (stepBy (ownedBy k e) e s) (λ j h. n (suc j) (omega arith)) ∙
+    step-keeps top k e s (n 0 (omega arith))
 
-after-last : (top : Bool) (k : ℕ) (es : List Hint) (s : StemHint) (i : ℕ) → LastOf top k es i → heightOf top (after k es s) ≡ getD es i noHint .«ds_coord»
+after-last : (top : Bool) (k : ℕ) (es : List Hint) (s : StemHint) (i : ℕ) → LastOf top k es i →
+    heightOf top (after k es s) ≡ getD es i noHint .«ds_coord»
 unfolding after
 after-last top k [] s i l = absurd (lt-irrefl 0 (omega arith))
 after-last top k (e ∷ es) s zero l =
-    after-keeps top k es (stepBy (ownedBy k e) e s) (λ j h. l .last (suc j) (omega arith) (omega arith)) ∙ step-height top k e s (l .bears)
+    after-keeps top k es (stepBy (ownedBy k e) e s) (λ j h. l .last (suc j) (omega arith) (omega arith)) ∙
+    step-height top k e s (l .bears)
 after-last top k (e ∷ es) s (suc i) l =
-    after-last top k es (stepBy (ownedBy k e) e s) i (record { there = omega arith; bears = l .bears; last = λ j g h. l .last (suc j) (omega arith) (omega arith) })
+    after-last top k es (stepBy (ownedBy k e) e s) i
+    (record { there = omega arith; bears = l .bears; last = λ j g h. l .last (suc j) (omega arith) (omega arith) })
 
 -- a stem has the height of its last edge on a side
-pub saved-heights : (top : Bool) (es : List Hint) (ss : Stems) (k i : ℕ) → k < length (ss .list) → LastOf top k es i → heightOf top (stemAt (savedAll es ss) k) ≡ getD es i noHint .«ds_coord»
+pub saved-heights : (top : Bool) (es : List Hint) (ss : Stems) (k i : ℕ) → k < length (ss .list) → LastOf top k es i →
+    heightOf top (stemAt (savedAll es ss) k) ≡ getD es i noHint .«ds_coord»
 saved-heights top es ss k i h l = rw (all-at es ss k h) (after-last top k es (stemAt ss k) i l)

@@ -1,4 +1,5 @@
--- Both builds give a map in order, valid and of the state's scale, whatever stems, mask, zones and initial map they get. Assumes nothing.
+-- Both builds give a map in order, valid and of the state's scale, whatever stems, mask, zones and
+-- initial map they get. Assumes nothing.
 use mathlib.Core.Path.{_≡_, refl, _∙_}
 use mathlib.Core.Bool.{Bool, true}
 use mathlib.Core.List.{List}
@@ -27,14 +28,18 @@ use Rattle.build.proofs.Rounds.{locked-round, free-round, round-keeps}
 -- ---- what all insertions keep
 module _ (P : HintMap → Type 0) (keep : Stable P) where
   -- the first round keeps it
-  locked-turns-keep : (st : HintState) (initial : HintMap) (given : Bool) (i : ℕ) (xs : List StemHint) (p : Placed) → P (p .map) → P (lockedTurns st initial given i xs p .map)
+  locked-turns-keep : (st : HintState) (initial : HintMap) (given : Bool) (i : ℕ) (xs : List StemHint) (p : Placed) →
+      P (p .map) → P (lockedTurns st initial given i xs p .map)
   locked-turns-keep st initial given i xs p h =
-      round-keeps (locked-round st initial given) (i + length xs) (λ (j : ℕ) (q : Placed). P (q .map)) (λ j x q l. locked-keeps P keep st initial given q j x) i xs p refl h
+      round-keeps (locked-round st initial given) (i + length xs) (λ (j : ℕ) (q : Placed). P (q .map))
+      (λ j x q l. locked-keeps P keep st initial given q j x) i xs p refl h
 
   -- so does the second
-  free-turns-keep : (st : HintState) (initial : HintMap) (i : ℕ) (xs : List StemHint) (p : Placed) → P (p .map) → P (freeTurns st initial i xs p .map)
+  free-turns-keep : (st : HintState) (initial : HintMap) (i : ℕ) (xs : List StemHint) (p : Placed) → P (p .map) →
+      P (freeTurns st initial i xs p .map)
   free-turns-keep st initial i xs p h =
-      round-keeps (free-round st initial) (i + length xs) (λ (j : ℕ) (q : Placed). P (q .map)) (λ j x q l. free-keeps P keep st initial q j x) i xs p refl h
+      round-keeps (free-round st initial) (i + length xs) (λ (j : ℕ) (q : Placed). P (q .map))
+      (λ j x q l. free-keeps P keep st initial q j x) i xs p refl h
 
   module _ (st : HintState) (ss : Stems) (new : P (newMap (st .scale))) where
     -- so it holds of what both builds adjust, if it holds of a new map
@@ -45,24 +50,33 @@ module _ (P : HintMap → Type 0) (keep : Stable P) where
     initial-holds = baselined-keeps P keep _ (locked-turns-keep st _ _ 0 (declaredIn ss) _ (boxed-holds _ _))
 
     placed-holds : (mask : HintMask) (initial : HintMap) → P (placedOf st mask initial ss)
-    placed-holds mask initial = free-turns-keep st initial 0 (declaredIn ss) _ (locked-turns-keep st initial true 0 (declaredIn ss) _ (boxed-holds initial true))
+    placed-holds mask initial =
+        free-turns-keep st initial 0 (declaredIn ss)
+        _ (locked-turns-keep st initial true 0 (declaredIn ss) _ (boxed-holds initial true))
 
 -- ---- in order
 -- what both builds adjust is in order
 pub initial-placed-good : (st : HintState) (ss : Stems) → Good (initialPlaced st ss .map)
-initial-placed-good st ss = locked-turns-keep Good insert-good st _ _ 0 (declaredIn ss) _ (boxed-holds Good insert-good st ss (new-good (st .scale)) _ _)
+initial-placed-good st ss =
+    locked-turns-keep Good insert-good st _ _ 0 (declaredIn ss)
+    _ (boxed-holds Good insert-good st ss (new-good (st .scale)) _ _)
 
 pub baselined-good : (m : HintMap) → Good m → Good (baselined m)
 baselined-good = baselined-keeps Good insert-good
 
-pub placed-good : (st : HintState) (mask : HintMask) (initial : HintMap) (ss : Stems) → Good (placedOf st mask initial ss)
+pub placed-good : (st : HintState) (mask : HintMask) (initial : HintMap) (ss : Stems) →
+    Good (placedOf st mask initial ss)
 placed-good st mask initial ss = placed-holds Good insert-good st ss (new-good (st .scale)) mask initial
 
 -- the adjustment keeps it in order
 pub adjust-good : (m : HintMap) → Good m → Good (adjustOf m)
 adjust-good m g =
     let k = adjust-kept m in
-    record { within = rw (k .len) (g .within); long = kept-length m (adjustOf m) k ∙ g .long; stems = adjust-stems m (g .stems) }
+    record {
+      within = rw (k .len) (g .within);
+      long = kept-length m (adjustOf m) k ∙ g .long;
+      stems = adjust-stems m (g .stems);
+    }
 
 -- the initial map is in order
 pub initial-good : (st : HintState) (ss : Stems) → Good (initialOf st ss)
@@ -70,7 +84,8 @@ unfolding initialOf
 initial-good st ss = valid-good _ (adjust-good _ (baselined-good _ (initial-placed-good st ss)))
 
 -- so is every other map
-pub built-good : (st : HintState) (mask : HintMask) (initial : HintMap) (ss : Stems) → Good (builtOf st mask initial ss .map)
+pub built-good : (st : HintState) (mask : HintMask) (initial : HintMap) (ss : Stems) →
+    Good (builtOf st mask initial ss .map)
 unfolding builtOf
 built-good st mask initial ss = valid-good _ (adjust-good _ (placed-good st mask initial ss))
 
@@ -80,7 +95,8 @@ pub initial-valid : (st : HintState) (ss : Stems) → initialOf st ss .«is_vali
 unfolding initialOf
 initial-valid st ss = refl
 
-pub built-valid : (st : HintState) (mask : HintMask) (initial : HintMap) (ss : Stems) → builtOf st mask initial ss .map .«is_valid» ≡ true
+pub built-valid : (st : HintState) (mask : HintMask) (initial : HintMap) (ss : Stems) →
+    builtOf st mask initial ss .map .«is_valid» ≡ true
 unfolding builtOf
 built-valid st mask initial ss = refl
 
@@ -101,6 +117,7 @@ module _ (st : HintState) where
   unfolding initialOf
   initial-scale ss = adjust-kept _ .scale ∙ initial-holds Scaled scaled st ss refl
 
-  pub built-scale : (mask : HintMask) (initial : HintMap) (ss : Stems) → builtOf st mask initial ss .map .scale ≡ st .scale
+  pub built-scale : (mask : HintMask) (initial : HintMap) (ss : Stems) →
+      builtOf st mask initial ss .map .scale ≡ st .scale
   unfolding builtOf
   built-scale mask initial ss = adjust-kept _ .scale ∙ placed-holds Scaled scaled st ss refl mask initial

@@ -1,4 +1,5 @@
--- Each step of a build is an insertion of a single edge or of one stem's two edges, or leaves the map, so that it keeps what all such insertions keep. Assumes nothing.
+-- Each step of a build is an insertion of a single edge or of one stem's two edges, or leaves the
+-- map, so that it keeps what all such insertions keep. Assumes nothing.
 use mathlib.Core.Path.{_≡_, refl, sym}
 use mathlib.Core.Bool.{Bool, true, false, _||_}
 use mathlib.Core.Logic.{inl, inr}
@@ -45,7 +46,9 @@ module _ (st : HintState) (x : StemHint) (i : ℕ) where
   -- locked or captured, a stem's edges differ on the device only
   pub prepared-like : Likes (preparedOf st x i)
   unfolding preparedOf captureOf
-  prepared-like = go (own Bottom .locked || own Top .locked) (held (firstHolding (st .«blue_fuzz») (own Bottom) (own Top) (take (st .«zone_count») (st .zones))))
+  prepared-like =
+      go (own Bottom .locked || own Top .locked)
+      (held (firstHolding (st .«blue_fuzz») (own Bottom) (own Top) (take (st .«zone_count») (st .zones))))
     where
       held : (h : Held) → Likes (capturedBy h st (own Bottom) (own Top))
       held Free = (like-refl _, like-refl _)
@@ -76,7 +79,12 @@ made-baseline s = made-ghost (ghostAt GhostBottom ZERO ZERO s) (inl refl)
 module _ (initial : HintMap) (p : Placed) (i : ℕ) (x : StemHint) (P : Placed → Type 0) (same : P p) where
   -- the first round leaves all as it is, or puts in an active stem, which is then handled
   pub locked-cases : (st : HintState) (given : Bool) →
-      (isActive (p .rest) i ≡ true → P (record { map = insertIn (p .map) (chosen (preparedOf st x i .bottom) (preparedOf st x i .top)) initial given; rest = cleared (p .rest) i })) →
+      (isActive (p .rest) i ≡ true →
+      P (record {
+        map = insertIn (p .map) (chosen (preparedOf st x i .bottom) (preparedOf st x i .top)) initial
+            given;
+        rest = cleared (p .rest) i;
+      })) →
       P (lockedTurn st initial given p i x)
   unfolding lockedTurn
   locked-cases st given f = go (isActive (p .rest) i) refl
@@ -91,7 +99,12 @@ module _ (initial : HintMap) (p : Placed) (i : ℕ) (x : StemHint) (P : Placed �
 
   -- the second leaves all as it is, or puts in an active stem
   pub free-cases : (st : HintState) →
-      (isActive (p .rest) i ≡ true → P (record { map = insertIn (p .map) (chosen (setupOf x i (st .scale) Bottom) (setupOf x i (st .scale) Top)) initial true; rest = p .rest })) →
+      (isActive (p .rest) i ≡ true →
+      P (record {
+        map = insertIn (p .map) (chosen (setupOf x i (st .scale) Bottom) (setupOf x i (st .scale) Top))
+            initial true;
+        rest = p .rest;
+      })) →
       P (freeTurn st initial p i x)
   unfolding freeTurn
   free-cases st f = go (isActive (p .rest) i) refl
@@ -106,9 +119,11 @@ Stable P = (m : HintMap) (e : Edges) (initial : HintMap) (given : Bool) → Made
 
 module _ (P : HintMap → Type 0) (keep : Stable P) where
   -- the em box keeps it
-  pub boxed-keeps : (wanted : Bool) (initial : HintMap) (given : Bool) (m : HintMap) → P m → P (emBoxed wanted initial given m)
+  pub boxed-keeps : (wanted : Bool) (initial : HintMap) (given : Bool) (m : HintMap) → P m →
+      P (emBoxed wanted initial given m)
   unfolding emBoxed
-  boxed-keeps true initial given m h = keep _ _ initial given (made-box-top (m .scale)) (keep m _ initial given (made-box-bottom (m .scale)) h)
+  boxed-keeps true initial given m h =
+      keep _ _ initial given (made-box-top (m .scale)) (keep m _ initial given (made-box-bottom (m .scale)) h)
   boxed-keeps false initial given m h = h
 
   -- so does the baseline
@@ -121,10 +136,14 @@ module _ (P : HintMap → Type 0) (keep : Stable P) where
       go false = h
 
   -- so does a turn of either round
-  pub locked-keeps : (st : HintState) (initial : HintMap) (given : Bool) (p : Placed) (i : ℕ) (x : StemHint) → P (p .map) → P (lockedTurn st initial given p i x .map)
+  pub locked-keeps : (st : HintState) (initial : HintMap) (given : Bool) (p : Placed) (i : ℕ) (x : StemHint) →
+      P (p .map) → P (lockedTurn st initial given p i x .map)
   locked-keeps st initial given p i x h =
-      locked-cases initial p i x (λ (q : Placed). P (q .map)) h st given (λ e. keep (p .map) _ initial given (made-prepared st x i) h)
+      locked-cases initial p i x (λ (q : Placed). P (q .map)) h st given
+      (λ e. keep (p .map) _ initial given (made-prepared st x i) h)
 
-  pub free-keeps : (st : HintState) (initial : HintMap) (p : Placed) (i : ℕ) (x : StemHint) → P (p .map) → P (freeTurn st initial p i x .map)
+  pub free-keeps : (st : HintState) (initial : HintMap) (p : Placed) (i : ℕ) (x : StemHint) → P (p .map) →
+      P (freeTurn st initial p i x .map)
   free-keeps st initial p i x h =
-      free-cases initial p i x (λ (q : Placed). P (q .map)) h st (λ e. keep (p .map) _ initial true (made-setup x i (st .scale)) h)
+      free-cases initial p i x (λ (q : Placed). P (q .map)) h st
+      (λ e. keep (p .map) _ initial true (made-setup x i (st .scale)) h)

@@ -1,4 +1,5 @@
--- Any two outcomes that meet the contract of a public function are equal, over that contract as the toolchain reads it. Assumes nothing.
+-- Any two outcomes that meet the contract of a public function are equal, over that contract as the
+-- toolchain reads it. Assumes nothing.
 use mathlib.Core.Path.{_≡_, sym, _∙_}
 use contract.Lifetimes.{Lfts}
 use Rattle.stems.specs.declared.mask.HintMask.{HintMask}
@@ -10,7 +11,8 @@ use Rattle.build.proofs.initial.build_initial.Reads as build-initial-re
 use Rattle.build.proofs.map.build_map.Reads as build-map-reads
 
 module _ (κs : Lfts 0) (st : HintState) (ss : Stems) where
-  pub build-initial-unique : (r r′ : HintMap) → build-initial-reads.Post κs (st, (ss, tt)) r (st, (ss, tt)) → build-initial-reads.Post κs (st, (ss, tt)) r′ (st, (ss, tt)) → r ≡ r′
+  pub build-initial-unique : (r r′ : HintMap) → build-initial-reads.Post κs (st, (ss, tt)) r (st, (ss, tt)) →
+      build-initial-reads.Post κs (st, (ss, tt)) r′ (st, (ss, tt)) → r ≡ r′
   build-initial-unique r r′ p q = p ∙ sym q
 
   pub build-map-unique : (mask : HintMask) (initial : HintMap) (r r′ : Built) →

@@ -1,4 +1,5 @@
--- Which stems are used after a build, and the heights that they have: those of the map's edges. Assumes nothing.
+-- Which stems are used after a build, and the heights that they have: those of the map's edges.
+-- Assumes nothing.
 use mathlib.Core.Path.{_≡_, refl, sym}
 use mathlib.Core.Bool.{false}
 use mathlib.Core.List.{List}
@@ -35,7 +36,8 @@ module _ (st : HintState) (mask : HintMask) (initial : HintMap) (ss : Stems) whe
   unfolding builtOf
   used-exactly k h = saved-used edges ss k h
 
-  -- each edge of the map that is not synthetic has its device height saved in its stem, as that of the top or of the bottom
+  -- each edge of the map that is not synthetic has its device height saved in its stem, as that of
+  -- the top or of the bottom
   pub heights-saved : (i : ℕ) → i < length edges → getD edges i noHint .synthetic ≡ false →
       let e = getD edges i noHint in
       heightOf (isTop e) (stemAt (built .stems) (e .index)) ≡ e .«ds_coord»
@@ -43,5 +45,10 @@ module _ (st : HintState) (mask : HintMask) (initial : HintMap) (ss : Stems) whe
   heights-saved i h s =
       let e = getD edges i noHint in
       let bears : Bears (isTop e) (e .index) e = record { own = record { real = s; number = refl }; side = refl } in
-      saved-heights (isTop e) edges ss (e .index) i (omega (arith, numbered st mask initial ss i h s, length-take (ss .count) (ss .list)))
-      (record { there = h; bears = bears; last = λ j f g b. lt-irrefl i (rw (sym (once st mask initial ss (isTop e) (e .index) i j h g bears b)) at f) })
+      saved-heights (isTop e) edges ss (e .index) i
+      (omega (arith, numbered st mask initial ss i h s, length-take (ss .count) (ss .list)))
+      (record {
+        there = h;
+        bears = bears;
+        last = λ j f g b. lt-irrefl i (rw (sym (once st mask initial ss (isTop e) (e .index) i j h g bears b)) at f);
+      })

@@ -25,7 +25,8 @@ boxedMap st initial given = emBoxed (st .«do_em_box_hints») initial given (new
 -- ---- the initial map: all stems that are locked or captured, then the baseline; no initial map is given, and the one that is named is not read
 abbrev pub initialPlaced : HintState → Stems → Placed
 initialPlaced st ss =
-    lockedTurns st (newMap (st .scale)) false 0 (declaredIn ss) (record { map = boxedMap st (newMap (st .scale)) false; rest = allActive })
+    lockedTurns st (newMap (st .scale)) false 0 (declaredIn ss)
+    (record { map = boxedMap st (newMap (st .scale)) false; rest = allActive })
 
 unfoldable pub initialOf : HintState → Stems → HintMap
 initialOf st ss = validMap (adjustOf (baselined (initialPlaced st ss .map)))
@@ -54,7 +55,8 @@ noStem = record { «is_used» = false; min = ZERO; max = ZERO; «ds_min» = ZERO
 
 abbrev pub savedBy : Bool → Hint → Stems → Stems
 savedBy true e ss = ss
-savedBy false e ss = record { list = set (ss .list) (e .index) (savedStem e (getD (ss .list) (e .index) noStem)); count = ss .count }
+savedBy false e ss =
+    record { list = set (ss .list) (e .index) (savedStem e (getD (ss .list) (e .index) noStem)); count = ss .count }
 
 -- a synthetic edge has no stem
 unfoldable pub savedIn : Hint → Stems → Stems

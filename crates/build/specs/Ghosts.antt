@@ -27,7 +27,8 @@ ghostAt k h d s =
       scale = s;
     }
 
--- the em box: at −120.0 less a bit and at 880.0 and a bit, each rounded on the device and half a pixel further out
+-- the em box: at −120.0 less a bit and at 880.0 and a bit, each rounded on the device and half a
+-- pixel further out
 abbrev pub boxBottom : Fixed
 boxBottom = fromBits (icfBottom .bits -ℤ pos 1)
 
@@ -42,7 +43,8 @@ emTop s = ghostAt GhostTop boxTop (addF (roundF (mulF boxTop s)) HALF) s
 
 abbrev pub boxedBy : HintMap → Bool → HintMap → HintMap
 boxedBy initial given m =
-    insertIn (insertIn m (chosen (emBottom (m .scale)) noHint) initial given) (chosen noHint (emTop (m .scale))) initial given
+    insertIn (insertIn m (chosen (emBottom (m .scale)) noHint) initial given) (chosen noHint (emTop (m .scale))) initial
+    given
 
 -- both, bottom first, where em-box hints are asked for
 unfoldable pub emBoxed : Bool → HintMap → Bool → HintMap → HintMap
@@ -51,7 +53,9 @@ emBoxed false initial given m = m
 
 -- no edge, or the first above 0, or the last below it
 unfoldable pub uncovered : HintMap → Bool
-uncovered m = eqb (m .len) 0 || (lessF ZERO (getD (m .edges) 0 noHint .«cs_coord») || lessF (getD (m .edges) (m .len - 1) noHint .«cs_coord») ZERO)
+uncovered m =
+    eqb (m .len) 0 || (lessF ZERO (getD (m .edges) 0 noHint .«cs_coord») ||
+    lessF (getD (m .edges) (m .len - 1) noHint .«cs_coord») ZERO)
 
 -- no initial map is given, and the one that is named is not read
 abbrev pub baselineBy : Bool → HintMap → HintMap

@@ -36,7 +36,8 @@ putBy true initial given p i e =
 putBy false initial given p i e = p
 
 abbrev pub lockedBy : Bool → HintState → HintMap → Bool → Placed → ℕ → StemHint → Placed
-lockedBy true st initial given p i stem = putBy (preparedOf st stem i .captured) initial given p i (preparedOf st stem i)
+lockedBy true st initial given p i stem =
+    putBy (preparedOf st stem i .captured) initial given p i (preparedOf st stem i)
 lockedBy false st initial given p i stem = p
 
 -- an active stem that is locked or captured is put in, and is handled even if it is dropped
@@ -45,7 +46,11 @@ lockedTurn st initial given p i stem = lockedBy (isActive (p .rest) i) st initia
 
 abbrev pub freeBy : Bool → HintState → HintMap → Placed → ℕ → StemHint → Placed
 freeBy true st initial p i stem =
-    record { map = insertIn (p .map) (chosen (setupOf stem i (st .scale) Bottom) (setupOf stem i (st .scale) Top)) initial true; rest = p .rest }
+    record {
+      map = insertIn (p .map) (chosen (setupOf stem i (st .scale) Bottom) (setupOf stem i (st .scale) Top))
+          initial true;
+      rest = p .rest;
+    }
 freeBy false st initial p i stem = p
 
 -- an active stem that is left is put in

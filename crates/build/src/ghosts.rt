@@ -9,7 +9,8 @@ ghost use Prim.Native.Nat.{_≤_};
 ghost use Rattle.build.specs.Ghosts.{ghostAt, emBottom, emTop, emBoxed, uncovered, baselined};
 ghost use Rattle.stems.specs.Edge.{maxHints};
 
-// The ghosts of the em box lie one bit outside of it, so that a zone or a stem at its edge is none of them.
+// The ghosts of the em box lie one bit outside of it, so that a zone or a stem at its edge is none
+// of them.
 const BOX_BOTTOM: Fixed = Fixed { bits: -0x78_0001 };
 
 const BOX_TOP: Fixed = Fixed { bits: 0x370_0001 };
@@ -76,7 +77,8 @@ fn is_uncovered(map: HintMap) -> bool
     last.cs_coord.less(Fixed::ZERO)
 }
 
-// From `build`: a glyph whose hints leave the baseline out has it locked in the initial map all the same.
+// From `build`: a glyph whose hints leave the baseline out has it locked in the initial map all the
+// same.
 pub(crate) fn with_baseline(map: HintMap) -> HintMap
     requires { ⌜ map .len ≤ maxHints ⌝ }
     ensures { λ r. ⌜ r ≡ baselined map ⌝ }

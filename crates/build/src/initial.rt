@@ -11,7 +11,8 @@ use zones::HintState;
 ghost use mathlib.Core.Path.{_≡_};
 ghost use Rattle.build.specs.Build.{initialOf};
 
-// Ports `build` where it is the initial map's: all stems that are locked or captured, and the baseline.
+// Ports `build` where it is the initial map's: all stems that are locked or captured, and the
+// baseline.
 pub fn build_initial(state: HintState, stems: Stems) -> HintMap
     ensures { λ r. ⌜ r ≡ initialOf state stems ⌝ }
 {

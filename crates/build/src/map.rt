@@ -18,7 +18,8 @@ pub struct Built {
     pub stems: Stems,
 }
 
-// Ports `build` where it is not the initial map's: active stems that are locked or captured, then those that are left.
+// Ports `build` where it is not the initial map's: active stems that are locked or captured, then
+// those that are left.
 pub fn build_map(state: HintState, mask: HintMask, stems: Stems, initial: HintMap) -> Built
     ensures { λ r. ⌜ r ≡ builtOf state mask initial stems ⌝ }
 {

@@ -51,7 +51,8 @@ fn prepared(state: HintState, stem: StemHint, index: u8) -> Captured
     state.capture(bottom, top)
 }
 
-// From `build`: the first round over the stems. An active stem that is locked or captured is put in, and handled even if it is dropped.
+// From `build`: the first round over the stems. An active stem that is locked or captured is put
+// in, and handled even if it is dropped.
 pub(crate) fn place_locked(
     p: Placed,
     state: HintState,

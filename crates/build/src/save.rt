@@ -25,7 +25,8 @@ fn saved(stem: StemHint, edge: Hint) -> StemHint
     used
 }
 
-// From `build`: the heights of all edges are saved, each in its stem. No edge that a stem has is out of range.
+// From `build`: the heights of all edges are saved, each in its stem. No edge that a stem has is
+// out of range.
 pub(crate) fn save_all(stems: Stems, map: HintMap) -> Stems
     requires { ⌜ map .len ≤ maxHints ⌝ }
     ensures { λ r. ⌜ r ≡ savedAll (view map) stems ⌝ }

@@ -21,7 +21,8 @@ use Rattle.commands.specs.Faults.{maskPast, isBad, hasBadMask, faultRows
 -- a mask that is not past its bytes ends among them
 pub mask-inside : (start len bytes : ℕ) → maskPast start len bytes ≡ false → start + len ≤ bytes
 unfolding maskPast
-mask-inside start len bytes e = ltb-false _ _ (last (leb 2147483648 start) (leb 2147483648 len) (ltb bytes (start + len)) e)
+mask-inside start len bytes e =
+    ltb-false _ _ (last (leb 2147483648 start) (leb 2147483648 len) (ltb bytes (start + len)) e)
   where
     last : (u v w : Bool) → (u || (v || w)) ≡ false → w ≡ false
     last true v w e = cc
@@ -49,7 +50,9 @@ module _ (b : ℕ) (w : ℕ → ℕ) (n : ℕ) where
       ap (λ (l : List CommandAt). cond (ltb i n) (record { place = b + i; command = readAt w n i .command } ∷ l) [])
       (enough f g (nextAt w i) (omega arith) (omega arith))
 
-  pub first : (i : ℕ) → i < n → commandsFrom (n - i) b w n i ≡ record { place = b + i; command = readAt w n i .command } ∷ commandsFrom (n - nextAt w i) b w n (nextAt w i)
+  pub first : (i : ℕ) → i < n →
+      commandsFrom (n - i) b w n i ≡
+      record { place = b + i; command = readAt w n i .command } ∷ commandsFrom (n - nextAt w i) b w n (nextAt w i)
   unfolding commandsFrom
   first i h =
       let e : n - i ≡ suc (n - (i + 1)) = omega arith in
@@ -69,7 +72,9 @@ module _ (b : ℕ) (w : ℕ → ℕ) (n : ℕ) where
   at-most-from zero i = omega arith
   at-most-from (suc f) i = by (ltb i n) (at-most-from f (nextAt w i))
     where
-      by : (t : Bool) → length (commandsFrom f b w n (nextAt w i)) ≤ f → length (cond t (record { place = b + i; command = readAt w n i .command } ∷ commandsFrom f b w n (nextAt w i)) []) ≤ suc f
+      by : (t : Bool) → length (commandsFrom f b w n (nextAt w i)) ≤ f →
+          length (cond t (record { place = b + i; command = readAt w n i .command } ∷ commandsFrom f b w n (nextAt w i))
+          []) ≤ suc f
       by true h = omega arith
       by false h = omega arith
 
@@ -78,7 +83,10 @@ module _ (b : ℕ) (w : ℕ → ℕ) (n : ℕ) where
   at-most = at-most-from n 0
 
   -- their tests
-  pub rows-first : (bytes i : ℕ) → i < n → commandRows bytes (commandsFrom (n - i) b w n i) ≡ faultRows bytes (b + i) (readAt w n i .command) ++ commandRows bytes (commandsFrom (n - nextAt w i) b w n (nextAt w i))
+  pub rows-first : (bytes i : ℕ) → i < n →
+      commandRows bytes (commandsFrom (n - i) b w n i) ≡
+      faultRows bytes (b + i) (readAt w n i .command) ++
+      commandRows bytes (commandsFrom (n - nextAt w i) b w n (nextAt w i))
   unfolding commandRows
   rows-first bytes i h = ap (commandRows bytes) (first i h)
 
@@ -105,8 +113,10 @@ rows-refusing bytes (c ∷ cs) zero h = refusal (omega arith)
 rows-refusing bytes (c ∷ cs) (suc zero) h = refusal (omega arith)
 rows-refusing bytes (c ∷ cs) (suc (suc j)) h = rows-refusing bytes cs j (omega arith)
 
--- where the answer is Ok, a command is neither bad nor has a bad mask, and the tests behind it answer Ok
-passes : (bytes place : ℕ) (c : Command) (rs : List (Row Answer)) → firstOf (faultRows bytes place c ++ rs) ≡ Ok → (isBad c ≡ false) × ((hasBadMask bytes c ≡ false) × (firstOf rs ≡ Ok))
+-- where the answer is Ok, a command is neither bad nor has a bad mask, and the tests behind it
+-- answer Ok
+passes : (bytes place : ℕ) (c : Command) (rs : List (Row Answer)) → firstOf (faultRows bytes place c ++ rs) ≡ Ok →
+    (isBad c ≡ false) × ((hasBadMask bytes c ≡ false) × (firstOf rs ≡ Ok))
 passes bytes place c rs e =
     let b = both-ok (faultRows bytes place c) rs (faults-refusing bytes place c) e in
     let f = none-holds Ok (faultRows bytes place c) (faults-refusing bytes place c) (b .0) in
@@ -114,16 +124,24 @@ passes bytes place c rs e =
 
 -- at a command that is there
 module _ (b : ℕ) (w : ℕ → ℕ) (n bytes i : ℕ) (h : i < n) where
-  pub faultless : firstOf (commandRows bytes (commandsFrom (n - i) b w n i)) ≡ Ok → (isBad (readAt w n i .command) ≡ false) × ((hasBadMask bytes (readAt w n i .command) ≡ false) × (firstOf (commandRows bytes (commandsFrom (n - nextAt w i) b w n (nextAt w i))) ≡ Ok))
+  pub faultless : firstOf (commandRows bytes (commandsFrom (n - i) b w n i)) ≡ Ok →
+      (isBad (readAt w n i .command) ≡ false) ×
+      ((hasBadMask bytes (readAt w n i .command) ≡ false) ×
+      (firstOf (commandRows bytes (commandsFrom (n - nextAt w i) b w n (nextAt w i))) ≡ Ok))
   faultless e = passes bytes (b + i) (readAt w n i .command) _ (sym (ap firstOf (rows-first b w n bytes i h)) ∙ e)
 
   -- its fault is the answer
-  pub fault-here : (f : Answer) → f ≡ firstOf (faultRows bytes (b + i) (readAt w n i .command)) → 0 < numberOf f → f ≡ firstOf (commandRows bytes (commandsFrom (n - i) b w n i))
+  pub fault-here : (f : Answer) → f ≡ firstOf (faultRows bytes (b + i) (readAt w n i .command)) → 0 < numberOf f →
+      f ≡ firstOf (commandRows bytes (commandsFrom (n - i) b w n i))
   fault-here f g k = g ∙ sym (ap firstOf (rows-first b w n bytes i h) ∙ found Ok _ _ (refusal (rw g at k)))
 
   -- and where it has none the commands behind it give it
-  pub fault-behind : (f : Answer) → f ≡ firstOf (faultRows bytes (b + i) (readAt w n i .command)) → numberOf f ≡ 0 → firstOf (commandRows bytes (commandsFrom (n - i) b w n i)) ≡ firstOf (commandRows bytes (commandsFrom (n - nextAt w i) b w n (nextAt w i)))
-  fault-behind f g k = ap firstOf (rows-first b w n bytes i h) ∙ onward Ok _ _ (faults-refusing bytes (b + i) (readAt w n i .command)) (sym g ∙ is-ok f k)
+  pub fault-behind : (f : Answer) → f ≡ firstOf (faultRows bytes (b + i) (readAt w n i .command)) → numberOf f ≡ 0 →
+      firstOf (commandRows bytes (commandsFrom (n - i) b w n i)) ≡
+      firstOf (commandRows bytes (commandsFrom (n - nextAt w i) b w n (nextAt w i)))
+  fault-behind f g k =
+      ap firstOf (rows-first b w n bytes i h) ∙
+      onward Ok _ _ (faults-refusing bytes (b + i) (readAt w n i .command)) (sym g ∙ is-ok f k)
 
 -- the part of a slice that is lent from i on is the rest of it
 pub lent : {A : Type 0} (s : List A) (i : ℕ) → take (length s - i) (drop i s) ≡ drop i s

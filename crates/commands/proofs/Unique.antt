@@ -1,4 +1,5 @@
--- Any two results that meet the contract of a public function are equal, over that contract as the toolchain reads it. Assumes nothing.
+-- Any two results that meet the contract of a public function are equal, over that contract as the
+-- toolchain reads it. Assumes nothing.
 use mathlib.Core.Path.{_≡_, sym, _∙_}
 use borrow.Fn.Kinds.{endedOf}
 use borrow.Fn.World.{ArgsD, ResD}
@@ -12,10 +13,12 @@ use Rattle.commands.proofs.faults.check_commands as check-commands
 use Rattle.commands.proofs.faults.check_commands.Kinds as check-commands-kinds
 use Rattle.commands.proofs.faults.check_commands.Reads as check-commands-reads
 
-module _ (κs : Lfts 1) (a : ArgsD read-command.signature κs) (r r′ : ResD read-command.signature κs) (x x′ : AtExit (endedOf 1 read-command-kinds.ps read-command-kinds.r) κs) where
+module _ (κs : Lfts 1) (a : ArgsD read-command.signature κs) (r r′ : ResD read-command.signature κs)
+    (x x′ : AtExit (endedOf 1 read-command-kinds.ps read-command-kinds.r) κs) where
   pub read-command-unique : read-command-reads.Post κs a r x → read-command-reads.Post κs a r′ x′ → r ≡ r′
   read-command-unique p q = p ∙ sym q
 
-module _ (κs : Lfts 1) (a : ArgsD check-commands.signature κs) (r r′ : ResD check-commands.signature κs) (x x′ : AtExit (endedOf 1 check-commands-kinds.ps check-commands-kinds.r) κs) where
+module _ (κs : Lfts 1) (a : ArgsD check-commands.signature κs) (r r′ : ResD check-commands.signature κs)
+    (x x′ : AtExit (endedOf 1 check-commands-kinds.ps check-commands-kinds.r) κs) where
   pub check-commands-unique : check-commands-reads.Post κs a r x → check-commands-reads.Post κs a r′ x′ → r ≡ r′
   check-commands-unique p q = says-is p ∙ sym (says-is q)

@@ -1,4 +1,5 @@
--- The commands of a script (01, "The script"), read from words, whatever gives them; a script's are rawAt of its bytes.
+-- The commands of a script (01, "The script"), read from words, whatever gives them; a script's are
+-- rawAt of its bytes.
 use mathlib.Core.Bool.{cond}
 use mathlib.Core.List.{List, [], _∷_}
 use Prim.Native.Nat.{ℕ, zero, suc, _+_}
@@ -19,7 +20,8 @@ operandsOf k =
 abbrev pub pointAt : (ℕ → ℕ) → ℕ → Point
 pointAt w i = record { x = numberAt w i; y = numberAt w (i + 1) }
 
--- the command of kind k at word i: 1 stem, 2 hint mask, 3 counter mask, 4 clear, 5 move, 6 line, 7 curve, 8 close, 9 finish
+-- the command of kind k at word i: 1 stem, 2 hint mask, 3 counter mask, 4 clear, 5 move, 6 line, 7
+-- curve, 8 close, 9 finish
 unfoldable pub commandOf : (ℕ → ℕ) → ℕ → ℕ → Command
 commandOf w i k =
     cond (eqb k 1) (Mark (Stem (numberAt w (i + 1)) (numberAt w (i + 2))))

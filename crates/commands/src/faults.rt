@@ -68,7 +68,8 @@ fn check_part(part: &[u8], first: usize, n: usize, bytes: usize) -> Answer
 // The same over a whole script, whose `n` command words start at word `first`.
 pub fn check_commands(script: &[u8], first: usize, n: usize, bytes: usize) -> Answer
     requires { ⌜ (4 * (first + n) ≤ length (now script)) × ((length (now script) ≤ 65536) × (bytes ≤ 65536)) ⌝ }
-    ensures { λ r. ⌜ Says (firstOf (commandRows bytes (commandsOf first (rawAt (drop (4 * first) (now (script .entry)))) n))) r ⌝ }
+    ensures { λ r. ⌜ Says (firstOf
+        (commandRows bytes (commandsOf first (rawAt (drop (4 * first) (now (script .entry)))) n))) r ⌝ }
 {
     let at = 4 * first;
     check_part(&script[at..], first, n, bytes)

@@ -1,4 +1,5 @@
-// The commands of a script (01, "The script"). The part of the script that a function takes starts at the first command word.
+// The commands of a script (01, "The script"). The part of the script that a function takes starts
+// at the first command word.
 mod faults;
 mod reading;
 

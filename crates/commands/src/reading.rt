@@ -11,7 +11,8 @@ ghost use lib.ListN.{length};
 ghost use Rattle.words.specs.Words.{rawAt};
 ghost use Rattle.commands.specs.Commands.{operandsOf, pointAt, commandOf, readAt};
 
-// A command that writes nothing: what it asks of the hints. A script with a bad one is refused before it is run.
+// A command that writes nothing: what it asks of the hints. A script with a bad one is refused
+// before it is run.
 pub enum Marking {
     Bad,
     Stem(Fixed, Fixed),

@@ -1,5 +1,6 @@
--- Any two outcomes that meet the contract of a public function are equal, over that contract as the toolchain reads it: the result and, of a call that
--- writes records, every word of what was lent. Assumes nothing.
+-- Any two outcomes that meet the contract of a public function are equal, over that contract as the
+-- toolchain reads it: the result and, of a call that writes records, every word of what was lent.
+-- Assumes nothing.
 use mathlib.Core.Path.{_≡_, refl, sym, ap, _∙_}
 use mathlib.Core.List.{List}
 use native.Mathlib.Omega.{arith}
@@ -43,44 +44,61 @@ use Rattle.drawing.proofs.calls.finish.Reads as finish-reads
 use Rattle.drawing.proofs.opening.open.Reads as open-reads
 
 module _ (κs : Lfts 0) (st : HintState) (d r r′ : Drawing) where
-  pub hstem-unique : (min max : Fixed) → hstem-reads.Post κs (st, (d, (min, (max, tt)))) r (st, (d, (min, (max, tt)))) → hstem-reads.Post κs (st, (d, (min, (max, tt)))) r′ (st, (d, (min, (max, tt)))) → r ≡ r′
+  pub hstem-unique : (min max : Fixed) → hstem-reads.Post κs (st, (d, (min, (max, tt)))) r (st, (d, (min, (max, tt)))) →
+      hstem-reads.Post κs (st, (d, (min, (max, tt)))) r′ (st, (d, (min, (max, tt)))) → r ≡ r′
   hstem-unique min max p q = p ∙ sym q
 
-  pub hint-mask-unique : (mask : HintMask) → hint-mask-reads.Post κs (st, (d, (mask, tt))) r (st, (d, (mask, tt))) → hint-mask-reads.Post κs (st, (d, (mask, tt))) r′ (st, (d, (mask, tt))) → r ≡ r′
+  pub hint-mask-unique : (mask : HintMask) → hint-mask-reads.Post κs (st, (d, (mask, tt))) r (st, (d, (mask, tt))) →
+      hint-mask-reads.Post κs (st, (d, (mask, tt))) r′ (st, (d, (mask, tt))) → r ≡ r′
   hint-mask-unique mask p q = p ∙ sym q
 
-  pub counter-mask-unique : (mask : HintMask) → counter-mask-reads.Post κs (st, (d, (mask, tt))) r (st, (d, (mask, tt))) → counter-mask-reads.Post κs (st, (d, (mask, tt))) r′ (st, (d, (mask, tt))) → r ≡ r′
+  pub counter-mask-unique : (mask : HintMask) →
+      counter-mask-reads.Post κs (st, (d, (mask, tt))) r (st, (d, (mask, tt))) →
+      counter-mask-reads.Post κs (st, (d, (mask, tt))) r′ (st, (d, (mask, tt))) → r ≡ r′
   counter-mask-unique mask p q = p ∙ sym q
 
-  pub clear-hints-unique : clear-hints-reads.Post κs (st, (d, tt)) r (st, (d, tt)) → clear-hints-reads.Post κs (st, (d, tt)) r′ (st, (d, tt)) → r ≡ r′
+  pub clear-hints-unique : clear-hints-reads.Post κs (st, (d, tt)) r (st, (d, tt)) →
+      clear-hints-reads.Post κs (st, (d, tt)) r′ (st, (d, tt)) → r ≡ r′
   clear-hints-unique p q = p ∙ sym q
 
-  pub close-unique : close-reads.Post κs (st, (d, tt)) r (st, (d, tt)) → close-reads.Post κs (st, (d, tt)) r′ (st, (d, tt)) → r ≡ r′
+  pub close-unique : close-reads.Post κs (st, (d, tt)) r (st, (d, tt)) →
+      close-reads.Post κs (st, (d, tt)) r′ (st, (d, tt)) → r ≡ r′
   close-unique p q = p ∙ sym q
 
 after : {a b : After} → a .drawing ≡ b .drawing → a .answer ≡ b .answer → a ≡ b
-after {a} {b} d e = ap (λ (x : Drawing). record { drawing = x; answer = a .answer }) d ∙ ap (λ (x : CallAnswer). record { drawing = b .drawing; answer = x }) e
+after {a} {b} d e =
+    ap (λ (x : Drawing). record { drawing = x; answer = a .answer }) d ∙
+    ap (λ (x : CallAnswer). record { drawing = b .drawing; answer = x }) e
 
 -- a call has one outcome
-called-once : {st : HintState} {d : Drawing} {c : Call} {out m m′ : List ℤ} {r r′ : After} → Called st d c out r m → Called st d c out r′ m′ → (r ≡ r′) × (m ≡ m′)
+called-once : {st : HintState} {d : Drawing} {c : Call} {out m m′ : List ℤ} {r r′ : After} → Called st d c out r m →
+    Called st d c out r′ m′ → (r ≡ r′) × (m ≡ m′)
 called-once {r = r} {r′ = r′} p q =
     let a = same-answer (r .answer) (r′ .answer) (p .number ∙ sym (q .number)) (p .words ∙ sym (q .words)) in
     (after (p .drawing ∙ sym (q .drawing)) a, p .memory ∙ sym (q .memory))
 
-module _ (κs : Lfts 1) (a : ArgsD move-to.signature κs) (r r′ : ResD move-to.signature κs) (x x′ : AtExit (endedOf 1 move-to-kinds.ps move-to-kinds.r) κs) where
-  pub move-to-unique : move-to-reads.Post κs a r x → move-to-reads.Post κs a r′ x′ → (r ≡ r′) × (now (x .1 .1 .1 .0) ≡ now (x′ .1 .1 .1 .0))
+module _ (κs : Lfts 1) (a : ArgsD move-to.signature κs) (r r′ : ResD move-to.signature κs)
+    (x x′ : AtExit (endedOf 1 move-to-kinds.ps move-to-kinds.r) κs) where
+  pub move-to-unique : move-to-reads.Post κs a r x → move-to-reads.Post κs a r′ x′ →
+      (r ≡ r′) × (now (x .1 .1 .1 .0) ≡ now (x′ .1 .1 .1 .0))
   move-to-unique p q = called-once p q
 
-module _ (κs : Lfts 1) (a : ArgsD line-to.signature κs) (r r′ : ResD line-to.signature κs) (x x′ : AtExit (endedOf 1 line-to-kinds.ps line-to-kinds.r) κs) where
-  pub line-to-unique : line-to-reads.Post κs a r x → line-to-reads.Post κs a r′ x′ → (r ≡ r′) × (now (x .1 .1 .1 .0) ≡ now (x′ .1 .1 .1 .0))
+module _ (κs : Lfts 1) (a : ArgsD line-to.signature κs) (r r′ : ResD line-to.signature κs)
+    (x x′ : AtExit (endedOf 1 line-to-kinds.ps line-to-kinds.r) κs) where
+  pub line-to-unique : line-to-reads.Post κs a r x → line-to-reads.Post κs a r′ x′ →
+      (r ≡ r′) × (now (x .1 .1 .1 .0) ≡ now (x′ .1 .1 .1 .0))
   line-to-unique p q = called-once p q
 
-module _ (κs : Lfts 1) (a : ArgsD curve-to.signature κs) (r r′ : ResD curve-to.signature κs) (x x′ : AtExit (endedOf 1 curve-to-kinds.ps curve-to-kinds.r) κs) where
-  pub curve-to-unique : curve-to-reads.Post κs a r x → curve-to-reads.Post κs a r′ x′ → (r ≡ r′) × (now (x .1 .1 .1 .1 .1 .0) ≡ now (x′ .1 .1 .1 .1 .1 .0))
+module _ (κs : Lfts 1) (a : ArgsD curve-to.signature κs) (r r′ : ResD curve-to.signature κs)
+    (x x′ : AtExit (endedOf 1 curve-to-kinds.ps curve-to-kinds.r) κs) where
+  pub curve-to-unique : curve-to-reads.Post κs a r x → curve-to-reads.Post κs a r′ x′ →
+      (r ≡ r′) × (now (x .1 .1 .1 .1 .1 .0) ≡ now (x′ .1 .1 .1 .1 .1 .0))
   curve-to-unique p q = called-once p q
 
-module _ (κs : Lfts 1) (a : ArgsD finish.signature κs) (r r′ : ResD finish.signature κs) (x x′ : AtExit (endedOf 1 finish-kinds.ps finish-kinds.r) κs) where
-  pub finish-unique : finish-reads.Post κs a r x → finish-reads.Post κs a r′ x′ → (r ≡ r′) × (now (x .1 .1 .0) ≡ now (x′ .1 .1 .0))
+module _ (κs : Lfts 1) (a : ArgsD finish.signature κs) (r r′ : ResD finish.signature κs)
+    (x x′ : AtExit (endedOf 1 finish-kinds.ps finish-kinds.r) κs) where
+  pub finish-unique : finish-reads.Post κs a r x → finish-reads.Post κs a r′ x′ →
+      (r ≡ r′) × (now (x .1 .1 .0) ≡ now (x′ .1 .1 .0))
   finish-unique p q = called-once p q
 
 -- the number of an opening tells which it is
@@ -95,9 +113,12 @@ same-opening BadBlues Ok e = absurd (omega arith)
 same-opening BadBlues BadScale e = absurd (omega arith)
 same-opening BadBlues BadBlues e = refl
 
-pub open-unique : (κs : Lfts 0) (params : HintParams) (scale : Fixed) (r r′ : Opened) → open-reads.Post κs (params, (scale, tt)) r (params, (scale, tt)) → open-reads.Post κs (params, (scale, tt)) r′ (params, (scale, tt)) → r ≡ r′
+pub open-unique : (κs : Lfts 0) (params : HintParams) (scale : Fixed) (r r′ : Opened) →
+    open-reads.Post κs (params, (scale, tt)) r (params, (scale, tt)) →
+    open-reads.Post κs (params, (scale, tt)) r′ (params, (scale, tt)) → r ≡ r′
 open-unique κs params scale r r′ p q =
     let a = same-opening (r .answer) (r′ .answer) (p .number ∙ sym (q .number)) in
     ap (λ (x : Opening). record { answer = x; state = r .state; drawing = r .drawing }) a ∙
-    ap (λ (x : HintState). record { answer = r′ .answer; state = x; drawing = r .drawing }) (p .state ∙ sym (q .state)) ∙
+    ap (λ (x : HintState). record { answer = r′ .answer; state = x; drawing = r .drawing }) (p .state ∙ sym (q .state))
+    ∙
     ap (λ (x : Drawing). record { answer = r′ .answer; state = r′ .state; drawing = x }) (p .drawing ∙ sym (q .drawing))

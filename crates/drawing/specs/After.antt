@@ -15,7 +15,8 @@ use Rattle.hints.specs.Path.{callNumber, callWords, callPlace}
 use Rattle.hints.specs.Calls.{Call, wordsFor, roomBy}
 use Rattle.drawing.specs.declared.calls.After.{After}
 
--- the outcome of a call: 01's number, the words written and the place; the drawing; and what is lent
+-- the outcome of a call: 01's number, the words written and the place; the drawing; and what is
+-- lent
 pub record Called (st : HintState) (d : Drawing) (c : Call) (out : List ℤ) (said : After) (left : List ℤ) : Type 0 where
   pub number : callNumber (said .answer) ≡ cond (fits (wordsFor st d c) out) 0 6
   pub words : callWords (said .answer) ≡ cond (fits (wordsFor st d c) out) (length (wordsFor st d c)) 0

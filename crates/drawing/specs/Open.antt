@@ -21,7 +21,9 @@ use Rattle.hints.specs.Hints.{newHints}
 -- every list has at most seven pairs
 unfoldable pub countsFit : HintParams → Bool
 countsFit p =
-    leb (p .blues .count) maxBlues && (leb (p .«other_blues» .count) maxBlues && (leb (p .«family_blues» .count) maxBlues && leb (p .«family_other_blues» .count) maxBlues))
+    leb (p .blues .count) maxBlues &&
+    (leb (p .«other_blues» .count) maxBlues &&
+    (leb (p .«family_blues» .count) maxBlues && leb (p .«family_other_blues» .count) maxBlues))
 
 -- scale 1.0, all else 0
 abbrev pub refusedState : HintState

@@ -86,7 +86,8 @@ fn settle(drawing: Drawing, hints: Hints, drawn: Drawn) -> After
     }
 }
 
-// A call with a point has the current map built first. By a valid one it goes without looking at the hints again.
+// A call with a point has the current map built first. By a valid one it goes without looking at
+// the hints again.
 fn by_path(state: HintState, drawing: Drawing, path: Path, out: &mut [i32]) -> After
     requires { ⌜ hasPoint path ≡ true ⌝ }
     ensures { λ r. ⌜ Called state drawing (draw path) (now (out .entry)) r (now (out .exit)) ⌝ }

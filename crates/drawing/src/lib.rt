@@ -1,4 +1,5 @@
-// The state of one drawing, and the calls on it (01, "Path records" and the rows on lone calls and opening).
+// The state of one drawing, and the calls on it (01, "Path records" and the rows on lone calls and
+// opening).
 mod calls;
 mod opening;
 

@@ -1,9 +1,10 @@
--- The machine's bits of a signed number, for every width w: its low k bits and their clearing are `lowBits k` and `clearLow k`, and a number that 32 bits hold does not wrap.
--- Assumes nothing.
+-- The machine's bits of a signed number, for every width w: its low k bits and their clearing are
+-- `lowBits k` and `clearLow k`, and a number that 32 bits hold does not wrap. Assumes nothing.
 use mathlib.Core.Path.{_≡_, refl, sym, ap, _∙_}
 use mathlib.Core.Bool.{Bool, true, false}
 use Prim.Native.Nat.{ℕ, suc, _+_, _-_, _*_, _/_, _%_, _^_, _<_}
-use native.Mathlib.Nat.{add-mul, suc-mul, mul-le-mul-right, mod-lt, mod-le, mod-eq-of-lt, add-mod, add-mul-mod-self-right}
+use native.Mathlib.Nat.{add-mul, suc-mul, mul-le-mul-right, mod-lt, mod-le, mod-eq-of-lt, add-mod}
+use native.Mathlib.Nat.{add-mul-mod-self-right}
 use native.Mathlib.Omega.{arith}
 use lib.Arith.{digits-mod}
 use lib.Bits.{bitAnd, and-mask, and-high}
@@ -60,7 +61,14 @@ whole-low {w} z h = sym (low-of 0 (bits w) (omega arith) z h) ∙ mod-eq-of-lt (
 -- n and the low bits of −(n + 1) stay below a higher power
 room : (i k n : ℕ) → n < 2 ^ (i + k) → n + (2 ^ k - suc (n % 2 ^ k)) < 2 ^ (i + k)
 room i k n h =
-    omega (arith, mul-le-mul-right (2 ^ k) (shr-lt i k h), suc-mul (n / 2 ^ k) (2 ^ k), pow-add 2 i k, split n k, mod-lt n (pow-pos k))
+    omega (
+      arith,
+      mul-le-mul-right (2 ^ k) (shr-lt i k h),
+      suc-mul (n / 2 ^ k) (2 ^ k),
+      pow-add 2 i k,
+      split n k,
+      mod-lt n (pow-pos k),
+    )
 
 module _ {w : Width} (i k : ℕ) (e : i + k ≡ hbits w) where
   -- the mask that keeps all but the low k bits
@@ -68,13 +76,15 @@ module _ {w : Width} (i k : ℕ) (e : i + k ≡ hbits w) where
   unfolding lowBits
   cleared (pos n) h =
       let place : suc i + k ≡ bits w = omega (arith, bits-suc w, e) in
-      ap (toZ w) (above (suc i) k place (pos n) h) ∙ toZ-pos w {n = n - n % 2 ^ k} (omega (arith, h .sfits)) ∙ omega (ints, of-sub (pos n) (pos (n % 2 ^ k)), mod-le n (2 ^ k))
+      ap (toZ w) (above (suc i) k place (pos n) h) ∙ toZ-pos w {n = n - n % 2 ^ k} (omega (arith, h .sfits)) ∙
+      omega (ints, of-sub (pos n) (pos (n % 2 ^ k)), mod-le n (2 ^ k))
   cleared (negsuc n) h =
       let place : suc i + k ≡ bits w = omega (arith, bits-suc w, e) in
       let r = 2 ^ k - suc (n % 2 ^ k) in
       let under : n + r < 2 ^ hbits w = rw e at (room i k n (rw (sym e) at (h .sfits))) in
       let less : 2 ^ bits w - suc n - r ≡ 2 ^ bits w - suc (n + r) = omega arith in
-      ap (toZ w) (above (suc i) k place (negsuc n) h ∙ less) ∙ toZ-neg w (n + r) under ∙ omega (ints, of-sub (negsuc n) (pos r))
+      ap (toZ w) (above (suc i) k place (negsuc n) h ∙ less) ∙ toZ-neg w (n + r) under ∙
+      omega (ints, of-sub (negsuc n) (pos r))
 
 -- ---- what 32 bits hold
 -- a number that fits does not wrap
@@ -96,7 +106,9 @@ wrap-fits z = sfits-toZ (fits-of-lt (low-lt 32 z))
 pub of-toZ : (n : ℕ) → n < 2 ^ 32 → up (toZ w32 n) + 2 ^ 31 ≡ (n + 2 ^ 31) % 2 ^ 32 + dn (toZ w32 n)
 of-toZ n h = go (ltb n (2 ^ 31)) refl
   where
-    go : (t : Bool) → ltb n (2 ^ 31) ≡ t → up (sel t (pos n) (negsuc (2 ^ 32 - suc n))) + 2 ^ 31 ≡ (n + 2 ^ 31) % 2 ^ 32 + dn (sel t (pos n) (negsuc (2 ^ 32 - suc n)))
+    go : (t : Bool) → ltb n (2 ^ 31) ≡ t →
+        up (sel t (pos n) (negsuc (2 ^ 32 - suc n))) + 2 ^ 31 ≡
+        (n + 2 ^ 31) % 2 ^ 32 + dn (sel t (pos n) (negsuc (2 ^ 32 - suc n)))
     go true e = omega (arith, ltb-true n (2 ^ 31) e)
     go false e = omega (arith, ltb-false n (2 ^ 31) e)
 
@@ -107,7 +119,8 @@ of-low (pos n) h = omega arith
 of-low (negsuc n) h = omega arith
 
 -- a wrapped number in naturals, for `omega`
-pub of-wrap : (z : ℤ) → SFits w64 z → up (wrap32 z) + 2 ^ 31 ≡ (up z + (2 ^ 64 + 2 ^ 31) - dn z) % 2 ^ 32 + dn (wrap32 z)
+pub of-wrap : (z : ℤ) → SFits w64 z →
+    up (wrap32 z) + 2 ^ 31 ≡ (up z + (2 ^ 64 + 2 ^ 31) - dn z) % 2 ^ 32 + dn (wrap32 z)
 unfolding wrap32 signed
 of-wrap z h = omega (ints, of-low z h, of-toZ (lowBits 32 z) (low-lt 32 z))
 
@@ -125,20 +138,24 @@ read w z h = toZ-ofZ (record { sfits = h })
 
 -- ---- sums of low bits
 -- the low bits of two numbers, summed, have the low bits of the sum
-pub low-add : (a b : ℤ) → SFits w64 a → SFits w64 b → SFits w64 (a +ℤ b) → (bitsOf a + bitsOf b) % 2 ^ 32 ≡ bitsOf (a +ℤ b)
+pub low-add : (a b : ℤ) → SFits w64 a → SFits w64 b → SFits w64 (a +ℤ b) →
+    (bitsOf a + bitsOf b) % 2 ^ 32 ≡ bitsOf (a +ℤ b)
 low-add a b f g h =
     let x = up a + 2 ^ 64 - dn a in
     let y = up b + 2 ^ 64 - dn b in
     let s = up (a +ℤ b) + 2 ^ 64 - dn (a +ℤ b) in
     let e : x + y ≡ s + 2 ^ 32 * 2 ^ 32 = omega (ints, of-add a b) in
-    rw (of-low a f, of-low b g, of-low (a +ℤ b) h) (sym (add-mod x y (2 ^ 32)) ∙ ap (λ (n : ℕ). n % 2 ^ 32) e ∙ add-mul-mod-self-right s (2 ^ 32) (2 ^ 32))
+    rw (of-low a f, of-low b g, of-low (a +ℤ b) h)
+    (sym (add-mod x y (2 ^ 32)) ∙ ap (λ (n : ℕ). n % 2 ^ 32) e ∙ add-mul-mod-self-right s (2 ^ 32) (2 ^ 32))
 
 cancel : (x y k : ℕ) → x < 2 ^ 32 → y < 2 ^ 32 → (x + k) % 2 ^ 32 ≡ (y + k) % 2 ^ 32 → x ≡ y
 cancel x y k h l e = omega arith
 
 -- what is added to the low bits of b to give those of a are the low bits of the difference
-pub low-sub : (a b : ℤ) (r : ℕ) → SFits w32 a → SFits w32 b → r < 2 ^ 32 → (r + bitsOf b) % 2 ^ 32 ≡ bitsOf a → r ≡ bitsOf (a -ℤ b)
+pub low-sub : (a b : ℤ) (r : ℕ) → SFits w32 a → SFits w32 b → r < 2 ^ 32 → (r + bitsOf b) % 2 ^ 32 ≡ bitsOf a →
+    r ≡ bitsOf (a -ℤ b)
 low-sub a b r f g h e =
     let d = a -ℤ b in
     let back : d +ℤ b ≡ a = omega (ints, of-sub a b, of-add d b) in
-    cancel r (bitsOf d) (bitsOf b) h (low-lt 32 d) (e ∙ sym (low-add d b (sub-fits f g) (wide g) (rw back (wide f)) ∙ ap bitsOf back))
+    cancel r (bitsOf d) (bitsOf b) h (low-lt 32 d)
+    (e ∙ sym (low-add d b (sub-fits f g) (wide g) (rw back (wide f)) ∙ ap bitsOf back))

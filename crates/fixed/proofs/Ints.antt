@@ -1,5 +1,7 @@
--- Integers for `omega`. z is `up z − dn z`, two naturals of which one is 0: `omega ints` reads an order, an equation or a width of integers, among the hypotheses and as the
--- goal, as one of those naturals. A sum, a difference or a wrapped number in it is given by its law, in the list. Assumes nothing.
+-- Integers for `omega`. z is `up z − dn z`, two naturals of which one is 0: `omega ints` reads an
+-- order, an equation or a width of integers, among the hypotheses and as the goal, as one of those
+-- naturals. A sum, a difference or a wrapped number in it is given by its law, in the list. Assumes
+-- nothing.
 use mathlib.Core.Path.{_≡_, refl, sym, ap, subst}
 use mathlib.Core.Bool.{Bool, true, false, not, cond}
 use Prim.Native.Nat.{ℕ, zero, suc, pred, _+_, _-_, _^_, _≤_, _<_, min, max}
@@ -119,7 +121,8 @@ eq-make {a = negsuc a} {b = pos b} h = absurd (omega arith)
 eq-make {a = negsuc a} {b = negsuc b} h = ap negsuc (omega arith)
 
 -- ---- what a signed width holds
--- `omega` applies one rule to a hypothesis, so `fit-read` is one statement, and leaves out that z is not the width's 2^31 or 2^63: `fit-up` adds that
+-- `omega` applies one rule to a hypothesis, so `fit-read` is one statement, and leaves out that z
+-- is not the width's 2^31 or 2^63: `fit-up` adds that
 pub fit-up : {w : Width} {z : ℤ} → SFits w z → up z < 2 ^ hbits w
 fit-up {z = pos n} h = h .sfits
 fit-up {w} {z = negsuc n} h = omega (arith, h .sfits)
@@ -138,7 +141,8 @@ pub ruleset ints = (arith, le-read, le-make, lt-read, lt-make, eq-read, eq-make,
 pub of-subℕ : (a b : ℕ) → up (subℕ a b) + b ≡ dn (subℕ a b) + a
 of-subℕ a b = go (ltb a b) refl
   where
-    go : (t : Bool) → ltb a b ≡ t → up (cond t (negsuc (b - suc a)) (pos (a - b))) + b ≡ dn (cond t (negsuc (b - suc a)) (pos (a - b))) + a
+    go : (t : Bool) → ltb a b ≡ t →
+        up (cond t (negsuc (b - suc a)) (pos (a - b))) + b ≡ dn (cond t (negsuc (b - suc a)) (pos (a - b))) + a
     go true e = omega (arith, ltb-true a b e)
     go false e = omega (arith, ltb-false a b e)
 

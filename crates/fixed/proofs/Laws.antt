@@ -30,7 +30,15 @@ unfolding addF subF
 sub-add a b f g =
     let s = a .bits +ℤ b .bits in
     let d = wrap32 s -ℤ b .bits in
-    ap fromBits (omega (ints, of-add (a .bits) (b .bits), of-wrap s (add-fits f g), of-sub (wrap32 s) (b .bits), of-wrap d (sub-fits (wrap-fits s) g), one (a .bits), fit-up f))
+    ap fromBits (omega (
+      ints,
+      of-add (a .bits) (b .bits),
+      of-wrap s (add-fits f g),
+      of-sub (wrap32 s) (b .bits),
+      of-wrap d (sub-fits (wrap-fits s) g),
+      one (a .bits),
+      fit-up f,
+    ))
 
 -- ---- clearing the low k bits lowers by less than 2^k, and again by nothing
 pub clear-under : (k : ℕ) (z : ℤ) → clearLow k z ≤ℤ z
@@ -80,4 +88,10 @@ module _ (a : Fixed) (f : SFits w32 (a .bits +ℤ pos 32768)) where
   unfolding roundF addF
   round-down =
       let s = a .bits +ℤ pos 32768 in
-      rw (wrap-id s f) (omega (ints, clear-near 16 s, of-add (a .bits) (pos 32768), of-add (clearLow 16 s) (pos 32768), of-add (clearLow 16 s) (pos 65536)))
+      rw (wrap-id s f) (omega (
+        ints,
+        clear-near 16 s,
+        of-add (a .bits) (pos 32768),
+        of-add (clearLow 16 s) (pos 32768),
+        of-add (clearLow 16 s) (pos 65536),
+      ))

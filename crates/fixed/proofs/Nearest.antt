@@ -1,4 +1,5 @@
--- Sizes, products and rounded quotients, as the code comes to them: by the sign that it tests. Assumes nothing.
+-- Sizes, products and rounded quotients, as the code comes to them: by the sign that it tests.
+-- Assumes nothing.
 use mathlib.Core.Path.{_≡_, refl, sym, ap, _∙_}
 use mathlib.Core.Bool.{true, false, true≢false}
 use Prim.Native.Nat.{ℕ, zero, suc, _+_, _*_, _/_, _^_, _≤_, _<_}
@@ -114,7 +115,8 @@ unfolding quotientOf
 over-below a (pos n) e = absurd (no-natural-below n e)
 over-below a (negsuc n) e = refl
 
-pub over-above : (a b : ℤ) → (ofZ w32 b ≡ 0 → ⊥) → ltZ b (pos 0) ≡ false → nearest (a *ℤ pos 65536) (natAbs b) ≡ quotientOf a b
+pub over-above : (a b : ℤ) → (ofZ w32 b ≡ 0 → ⊥) → ltZ b (pos 0) ≡ false →
+    nearest (a *ℤ pos 65536) (natAbs b) ≡ quotientOf a b
 unfolding quotientOf
 over-above a (pos zero) h e = absurd (h refl)
 over-above a (pos (suc n)) h e = refl

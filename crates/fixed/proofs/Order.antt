@@ -1,5 +1,6 @@
--- The order of 16.16 numbers. `omega heights` reads, as a hypothesis and as the goal: `a .bits ≤ℤ b .bits`, `<ℤ`, an equation of two numbers, and a test (`lessF a b`,
--- `atMostF a b`) that came out true or false. A sum or a difference in it is given by its law. Assumes nothing.
+-- The order of 16.16 numbers. `omega heights` reads, as a hypothesis and as the goal: `a .bits ≤ℤ b
+-- .bits`, `<ℤ`, an equation of two numbers, and a test (`lessF a b`, `atMostF a b`) that came out
+-- true or false. A sum or a difference in it is given by its law. Assumes nothing.
 use mathlib.Core.Path.{_≡_, refl, sym, ap, _∙_}
 use mathlib.Core.Bool.{Bool, true, false, _&&_, true≢false}
 use mathlib.Core.Logic.{_⊎_, inl, inr}
@@ -13,7 +14,8 @@ use mir.Val.{SFits, ofZ, toZ}
 use mir.Facts.{toZ-ofZ}
 use Rattle.fixed.specs.declared.Fixed.{Fixed}
 use Rattle.fixed.specs.Fixed.{fromBits, lessF, atMostF, sameF}
-use Rattle.fixed.proofs.Ints.{ints, up, dn, eq-make, eq-read, test-lt, test-le, test-nlt, test-nle, make-lt, make-le, make-nlt, make-nle}
+use Rattle.fixed.proofs.Ints.{ints, up, dn, eq-make, eq-read, test-lt, test-le, test-nlt, test-nle, make-lt}
+use Rattle.fixed.proofs.Ints.{make-le, make-nlt, make-nle}
 
 -- equations of numbers
 pub same-read : {a b : Fixed} → a ≡ b → up (a .bits) + dn (b .bits) ≡ up (b .bits) + dn (a .bits)
@@ -22,7 +24,8 @@ same-read e = eq-read (ap (λ (x : Fixed). x .bits) e)
 pub same-make : {a b : Fixed} → up (a .bits) + dn (b .bits) ≡ up (b .bits) + dn (a .bits) → a ≡ b
 same-make {a} {b} h = ap fromBits (eq-make {a = a .bits} {b = b .bits} h)
 
-pub ruleset heights = (ints, test-lt, test-le, test-nlt, test-nle, make-lt, make-le, make-nlt, make-nle, same-read, same-make)
+pub ruleset heights =
+    (ints, test-lt, test-le, test-nlt, test-nle, make-lt, make-le, make-nlt, make-nle, same-read, same-make)
 
 -- ---- the order of heights is total
 pub record Total : Type 0 where

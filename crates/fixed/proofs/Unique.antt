@@ -1,4 +1,5 @@
--- Any two outcomes that meet the contract of a public function are equal, over that contract as the toolchain reads it. Assumes nothing.
+-- Any two outcomes that meet the contract of a public function are equal, over that contract as the
+-- toolchain reads it. Assumes nothing.
 use mathlib.Core.Path.{_≡_, sym, _∙_}
 use mathlib.Core.Bool.{Bool}
 use contract.Lifetimes.{Lfts}
@@ -28,16 +29,20 @@ use Rattle.fixed.proofs.Fixed.less.Reads as less-reads
 use Rattle.fixed.proofs.Fixed.at_most.Reads as at-most-reads
 use Rattle.fixed.proofs.Fixed.same.Reads as same-reads
 
-pub bits-of-unique : (κs : Lfts 0) (z : ℤ) (r r′ : ℕ) → bits-of-reads.Post κs (z, tt) r (z, tt) → bits-of-reads.Post κs (z, tt) r′ (z, tt) → r ≡ r′
+pub bits-of-unique : (κs : Lfts 0) (z : ℤ) (r r′ : ℕ) → bits-of-reads.Post κs (z, tt) r (z, tt) →
+    bits-of-reads.Post κs (z, tt) r′ (z, tt) → r ≡ r′
 bits-of-unique κs z r r′ p q = p ∙ sym q
 
-pub signed-unique : (κs : Lfts 0) (n : ℕ) (r r′ : ℤ) → signed-reads.Post κs (n, tt) r (n, tt) → signed-reads.Post κs (n, tt) r′ (n, tt) → r ≡ r′
+pub signed-unique : (κs : Lfts 0) (n : ℕ) (r r′ : ℤ) → signed-reads.Post κs (n, tt) r (n, tt) →
+    signed-reads.Post κs (n, tt) r′ (n, tt) → r ≡ r′
 signed-unique κs n r r′ p q = p ∙ sym q
 
-pub least-unique : (κs : Lfts 0) (a b r r′ : ℕ) → least-reads.Post κs (a, (b, tt)) r (a, (b, tt)) → least-reads.Post κs (a, (b, tt)) r′ (a, (b, tt)) → r ≡ r′
+pub least-unique : (κs : Lfts 0) (a b r r′ : ℕ) → least-reads.Post κs (a, (b, tt)) r (a, (b, tt)) →
+    least-reads.Post κs (a, (b, tt)) r′ (a, (b, tt)) → r ≡ r′
 least-unique κs a b r r′ p q = p ∙ sym q
 
-pub from-bits-unique : (κs : Lfts 0) (z : ℤ) (r r′ : Fixed) → from-bits-reads.Post κs (z, tt) r (z, tt) → from-bits-reads.Post κs (z, tt) r′ (z, tt) → r ≡ r′
+pub from-bits-unique : (κs : Lfts 0) (z : ℤ) (r r′ : Fixed) → from-bits-reads.Post κs (z, tt) r (z, tt) →
+    from-bits-reads.Post κs (z, tt) r′ (z, tt) → r ≡ r′
 from-bits-unique κs z r r′ p q = p ∙ sym q
 
 module _ (κs : Lfts 0) (a : Fixed) (r r′ : Fixed) where
@@ -63,37 +68,48 @@ module _ (κs : Lfts 0) (a : Fixed) (r r′ : Fixed) where
   trunc-unique p q = p ∙ sym q
 
 module _ (κs : Lfts 0) (a b : Fixed) (r r′ : Fixed) where
-  pub add-unique : add-reads.Post κs (a, (b, tt)) r (a, (b, tt)) → add-reads.Post κs (a, (b, tt)) r′ (a, (b, tt)) → r ≡ r′
+  pub add-unique : add-reads.Post κs (a, (b, tt)) r (a, (b, tt)) → add-reads.Post κs (a, (b, tt)) r′ (a, (b, tt)) →
+      r ≡ r′
   add-unique p q = p ∙ sym q
 
-  pub sub-unique : sub-reads.Post κs (a, (b, tt)) r (a, (b, tt)) → sub-reads.Post κs (a, (b, tt)) r′ (a, (b, tt)) → r ≡ r′
+  pub sub-unique : sub-reads.Post κs (a, (b, tt)) r (a, (b, tt)) → sub-reads.Post κs (a, (b, tt)) r′ (a, (b, tt)) →
+      r ≡ r′
   sub-unique p q = p ∙ sym q
 
-  pub mul-unique : mul-reads.Post κs (a, (b, tt)) r (a, (b, tt)) → mul-reads.Post κs (a, (b, tt)) r′ (a, (b, tt)) → r ≡ r′
+  pub mul-unique : mul-reads.Post κs (a, (b, tt)) r (a, (b, tt)) → mul-reads.Post κs (a, (b, tt)) r′ (a, (b, tt)) →
+      r ≡ r′
   mul-unique p q = p ∙ sym q
 
-  pub div-unique : div-reads.Post κs (a, (b, tt)) r (a, (b, tt)) → div-reads.Post κs (a, (b, tt)) r′ (a, (b, tt)) → r ≡ r′
+  pub div-unique : div-reads.Post κs (a, (b, tt)) r (a, (b, tt)) → div-reads.Post κs (a, (b, tt)) r′ (a, (b, tt)) →
+      r ≡ r′
   div-unique p q = p ∙ sym q
 
-  pub midpoint-unique : midpoint-reads.Post κs (a, (b, tt)) r (a, (b, tt)) → midpoint-reads.Post κs (a, (b, tt)) r′ (a, (b, tt)) → r ≡ r′
+  pub midpoint-unique : midpoint-reads.Post κs (a, (b, tt)) r (a, (b, tt)) →
+      midpoint-reads.Post κs (a, (b, tt)) r′ (a, (b, tt)) → r ≡ r′
   midpoint-unique p q = p ∙ sym q
 
-  pub min-unique : min-reads.Post κs (a, (b, tt)) r (a, (b, tt)) → min-reads.Post κs (a, (b, tt)) r′ (a, (b, tt)) → r ≡ r′
+  pub min-unique : min-reads.Post κs (a, (b, tt)) r (a, (b, tt)) → min-reads.Post κs (a, (b, tt)) r′ (a, (b, tt)) →
+      r ≡ r′
   min-unique p q = p ∙ sym q
 
-  pub max-unique : max-reads.Post κs (a, (b, tt)) r (a, (b, tt)) → max-reads.Post κs (a, (b, tt)) r′ (a, (b, tt)) → r ≡ r′
+  pub max-unique : max-reads.Post κs (a, (b, tt)) r (a, (b, tt)) → max-reads.Post κs (a, (b, tt)) r′ (a, (b, tt)) →
+      r ≡ r′
   max-unique p q = p ∙ sym q
 
 module _ (κs : Lfts 0) (a b c : Fixed) (r r′ : Fixed) where
-  pub mul-div-unique : mul-div-reads.Post κs (a, (b, (c, tt))) r (a, (b, (c, tt))) → mul-div-reads.Post κs (a, (b, (c, tt))) r′ (a, (b, (c, tt))) → r ≡ r′
+  pub mul-div-unique : mul-div-reads.Post κs (a, (b, (c, tt))) r (a, (b, (c, tt))) →
+      mul-div-reads.Post κs (a, (b, (c, tt))) r′ (a, (b, (c, tt))) → r ≡ r′
   mul-div-unique p q = p ∙ sym q
 
 module _ (κs : Lfts 0) (a b : Fixed) (r r′ : Bool) where
-  pub less-unique : less-reads.Post κs (a, (b, tt)) r (a, (b, tt)) → less-reads.Post κs (a, (b, tt)) r′ (a, (b, tt)) → r ≡ r′
+  pub less-unique : less-reads.Post κs (a, (b, tt)) r (a, (b, tt)) → less-reads.Post κs (a, (b, tt)) r′ (a, (b, tt)) →
+      r ≡ r′
   less-unique p q = p ∙ sym q
 
-  pub at-most-unique : at-most-reads.Post κs (a, (b, tt)) r (a, (b, tt)) → at-most-reads.Post κs (a, (b, tt)) r′ (a, (b, tt)) → r ≡ r′
+  pub at-most-unique : at-most-reads.Post κs (a, (b, tt)) r (a, (b, tt)) →
+      at-most-reads.Post κs (a, (b, tt)) r′ (a, (b, tt)) → r ≡ r′
   at-most-unique p q = p ∙ sym q
 
-  pub same-unique : same-reads.Post κs (a, (b, tt)) r (a, (b, tt)) → same-reads.Post κs (a, (b, tt)) r′ (a, (b, tt)) → r ≡ r′
+  pub same-unique : same-reads.Post κs (a, (b, tt)) r (a, (b, tt)) → same-reads.Post κs (a, (b, tt)) r′ (a, (b, tt)) →
+      r ≡ r′
   same-unique p q = p ∙ sym q

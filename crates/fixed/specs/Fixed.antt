@@ -1,4 +1,5 @@
--- Numbers in 16.16 (01, "Numbers in 16.16"), in its order. The code's `add` is `addF` here, and so for each: an exact whole number, rounded as 01 says, of which `wrapF` keeps the low 32 bits.
+-- Numbers in 16.16 (01, "Numbers in 16.16"), in its order. The code's `add` is `addF` here, and so
+-- for each: an exact whole number, rounded as 01 says, of which `wrapF` keeps the low 32 bits.
 use mathlib.Core.Bool.{Bool, cond, _&&_}
 use Prim.Native.Nat.{zero, suc, _-_, _^_}
 use lib.IntN.{ℤ, pos, negsuc, negℤ, natAbs, _+ℤ_, _-ℤ_, _*ℤ_}

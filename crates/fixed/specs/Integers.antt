@@ -1,4 +1,5 @@
--- Whole numbers, as 01's "Numbers in 16.16" speaks of them: low bits, what 32 bits keep of a number, and the rounding of a quotient.
+-- Whole numbers, as 01's "Numbers in 16.16" speaks of them: low bits, what 32 bits keep of a
+-- number, and the rounding of a quotient.
 use Prim.Native.Nat.{ℕ, suc, _+_, _-_, _*_, _/_, _%_, _^_}
 use lib.IntN.{ℤ, pos, negsuc, negℤ, _-ℤ_}
 use mir.Syntax.{w32}

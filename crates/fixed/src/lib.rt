@@ -4,7 +4,8 @@ ghost use lib.Signed.{_<ℤ_};
 ghost use lib.IntN.{pos, natAbs, _*ℤ_};
 ghost use Prim.Native.Nat.{min, _≤_, _<_, _^_};
 ghost use Rattle.fixed.specs.Integers.{bitsOf, signed, wrap32, nearest};
-ghost use Rattle.fixed.specs.Fixed.{fromBits, addF, subF, negF, absF, twiceF, mulF, divF, mulDivF, roundF, fractF, halfF, midpointF, truncF, lessF, atMostF, sameF, minF, maxF};
+ghost use Rattle.fixed.specs.Fixed.{fromBits, addF, subF, negF, absF, twiceF, mulF, divF, mulDivF, roundF};
+ghost use Rattle.fixed.specs.Fixed.{fractF, halfF, midpointF, truncF, lessF, atMostF, sameF, minF, maxF};
 
 // The 32 bits of a number, as one without a sign.
 pub fn bits_of(x: i32) -> u32
@@ -50,7 +51,8 @@ fn size(x: i32) -> u32
     x as u32
 }
 
-// p / d to the nearest whole number, halves away from zero. The bound holds of every product of two 32-bit numbers.
+// p / d to the nearest whole number, halves away from zero. The bound holds of every product of two
+// 32-bit numbers.
 fn nearest_div(p: i64, d: u32) -> i64
     requires { ⌜ (natAbs p ≤ 2 ^ 62) × (0 < d) ⌝ }
     ensures { λ r. ⌜ r ≡ nearest p d ⌝ }
@@ -63,7 +65,8 @@ fn nearest_div(p: i64, d: u32) -> i64
     (p + half) / whole
 }
 
-// a · b / d to the nearest, halves away from zero, wrapping: the product, the quotient and a·b/c are each one of these.
+// a · b / d to the nearest, halves away from zero, wrapping: the product, the quotient and a·b/c
+// are each one of these.
 fn ratio(a: i32, b: i32, d: u32) -> i32
     requires { ⌜ 0 < d ⌝ }
     ensures { λ r. ⌜ r ≡ wrap32 (nearest (a *ℤ b) d) ⌝ }

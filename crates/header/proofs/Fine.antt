@@ -1,4 +1,5 @@
--- What the tests of the header and of the parameters leave of a script that passes them. Assumes nothing.
+-- What the tests of the header and of the parameters leave of a script that passes them. Assumes
+-- nothing.
 use mathlib.Core.Path.{_≡_, refl}
 use mathlib.Core.Bool.{Bool, true, false}
 use mathlib.Core.List.{List}
@@ -56,7 +57,16 @@ module _ (s : List ℕ) where
       let masks = alike (rawAt s 6) (rawAt s 4 + rawAt s 5) (f 6) in
       let p7 = both-false (negative (rawAt s 7)) (differs (rawAt s 6 + padded (rawAt s 7)) (length s / 4)) (f 7) in
       let bytes = alike (rawAt s 6 + padded (rawAt s 7)) (length s / 4) (p7 .1) in
-      record { enough = omega arith; short = n .1; least = least; most = most; commands = commands; ends = omega arith; masks = masks; bytes = omega arith }
+      record {
+        enough = omega arith;
+        short = n .1;
+        least = least;
+        most = most;
+        commands = commands;
+        ends = omega arith;
+        masks = masks;
+        bytes = omega arith;
+      }
 
   pub whole : Fine s → firstOf (paramRows (rawAt s)) ≡ Ok → WholeParams s
   unfolding paramRows
@@ -74,7 +84,8 @@ module _ (s : List ℕ) where
   pub scaled : firstOf (paramRows (rawAt s)) ≡ Ok → pos 0 <ℤ numberAt (rawAt s) 1 .bits
   unfolding paramRows
   scaled e =
-      let t : lessF (numberAt (rawAt s) 1) (fromBits (pos 1)) ≡ false = none-holds Ok (paramRows (rawAt s)) params-refusing e 0 in
+      let t : lessF (numberAt (rawAt s) 1) (fromBits (pos 1)) ≡
+      false = none-holds Ok (paramRows (rawAt s)) params-refusing e 0 in
       omega heights
 
 -- ---- a word is negative exactly if it is 2^31 or more as a natural

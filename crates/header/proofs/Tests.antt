@@ -1,4 +1,5 @@
--- The way through a list of tests, and tests from facts on numbers and back. `omega tests` proves a test true or false. Assumes nothing.
+-- The way through a list of tests, and tests from facts on numbers and back. `omega tests` proves a
+-- test true or false. Assumes nothing.
 use mathlib.Core.Path.{_≡_, refl, sym, ap, _∙_}
 use mathlib.Core.Bool.{Bool, true, false, not, _&&_, _||_, true≢false}
 use mathlib.Core.List.{List, [], _∷_}
@@ -38,7 +39,8 @@ refuses (r ∷ rs) = ltb 0 (numberOf (r .said)) && refuses rs
 
 pub refusing : (rs : List (Row Answer)) → refuses rs ≡ true → Refusing Ok rs
 refusing [] h k l = absurd (omega arith)
-refusing (r ∷ rs) h zero l = refusal (ltb-true 0 (numberOf (r .said)) (both-true (ltb 0 (numberOf (r .said))) (refuses rs) h .0))
+refusing (r ∷ rs) h zero l =
+    refusal (ltb-true 0 (numberOf (r .said)) (both-true (ltb 0 (numberOf (r .said))) (refuses rs) h .0))
 refusing (r ∷ rs) h (suc k) l = refusing rs (both-true (ltb 0 (numberOf (r .said))) (refuses rs) h .1) k (omega arith)
 
 -- ---- either of two tests

@@ -1,4 +1,5 @@
--- The header of a script (01's table, BAD_SCRIPT). Counts and offsets are read as numbers below 2^32, and are negative from 2^31 on; their sums are exact.
+-- The header of a script (01's table, BAD_SCRIPT). Counts and offsets are read as numbers below
+-- 2^32, and are negative from 2^31 on; their sums are exact.
 use mathlib.Core.Bool.{Bool, true, not, _&&_, _||_}
 use mathlib.Core.List.{List, [], _∷_}
 use Prim.Native.Nat.{ℕ, _+_, _*_, _/_, _%_}

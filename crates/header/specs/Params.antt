@@ -1,4 +1,6 @@
--- The parameters of a script (01, "The script"): blue scale, shift, fuzz, language group, four counts, the pairs. They are said of words, whatever gives them; a script's are rawAt of its bytes.
+-- The parameters of a script (01, "The script"): blue scale, shift, fuzz, language group, four
+-- counts, the pairs. They are said of words, whatever gives them; a script's are rawAt of its
+-- bytes.
 use mathlib.Core.List.{List, [], _∷_, _++_}
 use Prim.Native.Nat.{ℕ, zero, suc, _+_, _-_, _*_, _≤_}
 use lib.Dec.{ltb}
@@ -60,7 +62,8 @@ paramsOf w =
       «family_other_blues» = bluesAt w (16 + 2 * w 12 + 2 * w 13 + 2 * w 14) (w 15);
     }
 
--- what a script with a fine header and fine counts has: at most seven pairs a list, and all of them in the script
+-- what a script with a fine header and fine counts has: at most seven pairs a list, and all of them
+-- in the script
 pub record WholeParams (s : List ℕ) : Type 0 where
   pub blues : rawAt s 12 ≤ maxBlues
   pub others : rawAt s 13 ≤ maxBlues

@@ -1,5 +1,5 @@
--- Laws of words laid over bytes: four stores lay one, those behind others are laid behind them, and no byte is lost; and of the words of an answer.
--- Assumes nothing.
+-- Laws of words laid over bytes: four stores lay one, those behind others are laid behind them, and
+-- no byte is lost; and of the words of an answer. Assumes nothing.
 use mathlib.Core.Path.{_≡_, refl, sym, ap, _∙_}
 use mathlib.Core.List.{List, [], _∷_, _++_, map, append-assoc, map-append}
 use Prim.Native.Nat.{ℕ, zero, suc, _+_, _*_, _/_, _%_, _≤_, _<_}
@@ -28,7 +28,8 @@ bytes-append [] vs = refl
 bytes-append (w ∷ ws) vs = ap (λ (l : List ℕ). wordBytes w ++ l) (bytes-append ws vs)
 
 -- ---- one word, by four stores
-stores : (n : ℕ) (b : List ℕ) (x y z w : ℕ) → n + 4 ≤ length b → set (set (set (set b n x) (n + 1) y) (n + 2) z) (n + 3) w ≡ take n b ++ (x ∷ y ∷ z ∷ w ∷ drop (n + 4) b)
+stores : (n : ℕ) (b : List ℕ) (x y z w : ℕ) → n + 4 ≤ length b →
+    set (set (set (set b n x) (n + 1) y) (n + 2) z) (n + 3) w ≡ take n b ++ (x ∷ y ∷ z ∷ w ∷ drop (n + 4) b)
 stores zero [] x y z w h = absurd (omega arith)
 stores zero (a ∷ []) x y z w h = absurd (omega arith)
 stores zero (a ∷ c ∷ []) x y z w h = absurd (omega arith)
@@ -43,19 +44,23 @@ stores (suc n) (a ∷ b) x y z w h =
     rw (p, q, r, s) (ap (λ (l : List ℕ). a ∷ l) (stores n b x y z w (omega arith)))
 
 pub store-laid : (b : List ℕ) (i w : ℕ) → 4 * i + 4 ≤ length b →
-    set (set (set (set b (4 * i) (w % 256)) (4 * i + 1) (w / 256 % 256)) (4 * i + 2) (w / 65536 % 256)) (4 * i + 3) (w / 16777216 % 256) ≡ laid b i (w ∷ [])
+    set (set (set (set b (4 * i) (w % 256)) (4 * i + 1) (w / 256 % 256)) (4 * i + 2) (w / 65536 % 256)) (4 * i + 3)
+    (w / 16777216 % 256) ≡ laid b i (w ∷ [])
 unfolding laid bytesOf
 store-laid b i w h = stores (4 * i) b _ _ _ _ h
 
 -- ---- words behind others
 module _ (b : List ℕ) (i : ℕ) (ws : List ℕ) (h : 4 * i + 4 * length ws ≤ length b) where
   front : length (take (4 * i) b ++ bytesOf ws) ≡ 4 * i + 4 * length ws
-  front = length-append (take (4 * i) b) (bytesOf ws) ∙ omega (arith, bytes-length ws, length-take-le (4 * i) b (omega arith))
+  front =
+      length-append (take (4 * i) b) (bytesOf ws) ∙
+      omega (arith, bytes-length ws, length-take-le (4 * i) b (omega arith))
 
   pub laid-length : length (laid b i ws) ≡ length b
   unfolding laid
   laid-length =
-      ap length (sym (append-assoc (take (4 * i) b) (bytesOf ws) (drop (4 * i + 4 * length ws) b))) ∙ length-append (take (4 * i) b ++ bytesOf ws) (drop (4 * i + 4 * length ws) b) ∙
+      ap length (sym (append-assoc (take (4 * i) b) (bytesOf ws) (drop (4 * i + 4 * length ws) b))) ∙
+      length-append (take (4 * i) b ++ bytesOf ws) (drop (4 * i + 4 * length ws) b) ∙
       omega (arith, front, length-drop (4 * i + 4 * length ws) b)
 
   pub laid-behind : (vs : List ℕ) (j : ℕ) → j ≡ i + length ws → laid (laid b i ws) j vs ≡ laid b i (ws ++ vs)
@@ -68,9 +73,11 @@ module _ (b : List ℕ) (i : ℕ) (ws : List ℕ) (h : 4 * i + 4 * length ws ≤
       let rest = drop (4 * i + 4 * length (ws ++ vs)) b in
       let fore : take n (f ++ drop n b) ≡ f = take-at f (drop n b) n front in
       let aft : drop (n + 4 * length vs) (f ++ drop n b) ≡ rest =
-      sym (drop-drop (4 * length vs) n (f ++ drop n b)) ∙ ap (drop (4 * length vs)) (drop-at f (drop n b) n front) ∙ drop-drop (4 * length vs) n b ∙ ap (λ (x : ℕ). drop x b) m in
+      sym (drop-drop (4 * length vs) n (f ++ drop n b)) ∙ ap (drop (4 * length vs)) (drop-at f (drop n b) n front) ∙
+      drop-drop (4 * length vs) n b ∙ ap (λ (x : ℕ). drop x b) m in
       rw (k, sym (append-assoc (take (4 * i) b) (bytesOf ws) (drop n b)), fore, aft, bytes-append ws vs)
-      (append-assoc (take (4 * i) b) (bytesOf ws) (bytesOf vs ++ rest) ∙ ap (λ (l : List ℕ). take (4 * i) b ++ l) (sym (append-assoc (bytesOf ws) (bytesOf vs) rest)))
+      (append-assoc (take (4 * i) b) (bytesOf ws) (bytesOf vs ++ rest) ∙
+      ap (λ (l : List ℕ). take (4 * i) b ++ l) (sym (append-assoc (bytesOf ws) (bytesOf vs) rest)))
 
 -- no words leave the bytes as they are
 pub laid-none : (b : List ℕ) (i : ℕ) → laid b i [] ≡ b
@@ -83,7 +90,8 @@ laid-none b i =
 pub words-length : (out : List ℤ) (i : ℕ) → i ≤ length out → length (map bitsOf (take i out)) ≡ i
 words-length out i h = length-map (take i out) bitsOf ∙ length-take-le i out h
 
-pub one-more : (out : List ℤ) (i : ℕ) → i < length out → map bitsOf (take (i + 1) out) ≡ map bitsOf (take i out) ++ (bitsOf (getD out i (pos 0)) ∷ [])
+pub one-more : (out : List ℤ) (i : ℕ) → i < length out →
+    map bitsOf (take (i + 1) out) ≡ map bitsOf (take i out) ++ (bitsOf (getD out i (pos 0)) ∷ [])
 one-more out i h = rw (add-one, take-suc out i (pos 0) h) (map-append bitsOf (take i out) (getD out i (pos 0) ∷ []))
 
 -- ---- an answer
@@ -111,12 +119,14 @@ pub low-laid : (b : List ℕ) (i n : ℕ) → laid b i (n % 4294967296 ∷ []) �
 unfolding laid bytesOf
 low-laid b i n = ap (λ (l : List ℕ). take (4 * i) b ++ ((l ++ []) ++ drop (4 * i + 4 * 1) b)) (low-bytes n)
 
--- number and place are the whole answer where it refuses, and the result is behind them where it does not
+-- number and place are the whole answer where it refuses, and the result is behind them where it
+-- does not
 pub refused-words : (a : Answer) (result : List ℤ) → 0 < numberOf a → answerWords a result ≡ numberOf a ∷ placeOf a ∷ []
 unfolding answerWords
 refused-words a result h = rw (ne-eqb (numberOf a) 0 (omega arith))
 
-pub ok-words : (a : Answer) (result : List ℤ) → numberOf a ≡ 0 → answerWords a result ≡ numberOf a ∷ placeOf a ∷ map bitsOf result
+pub ok-words : (a : Answer) (result : List ℤ) → numberOf a ≡ 0 →
+    answerWords a result ≡ numberOf a ∷ placeOf a ∷ map bitsOf result
 unfolding answerWords
 ok-words a result h = rw (eq-eqb (numberOf a) 0 h)
 
@@ -135,4 +145,10 @@ result-short out = omega (arith, length-take (4 + bitsOf (getD out 3 (pos 0))) o
 pub answered-within : {ws bytes left : List ℕ} {count : ℕ} → Answered ws bytes count left → count ≤ length left
 unfolding laid
 answered-within {ws} {bytes} a =
-    omega (arith, a .number, ap length (a .memory), bytes-length ws, length-append (bytesOf ws) (drop (4 * 0 + 4 * length ws) bytes))
+    omega (
+      arith,
+      a .number,
+      ap length (a .memory),
+      bytes-length ws,
+      length-append (bytesOf ws) (drop (4 * 0 + 4 * length ws) bytes),
+    )

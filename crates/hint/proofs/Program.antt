@@ -1,4 +1,5 @@
--- What an output holds after a script that is fine is the script's result, so that the program writes it. Assumes nothing.
+-- What an output holds after a script that is fine is the script's result, so that the program
+-- writes it. Assumes nothing.
 use mathlib.Core.Path.{_≡_, refl, sym, ap, _∙_}
 use mathlib.Core.Bool.{Bool, true, false, true≢false, cond}
 use mathlib.Core.List.{List, [], _∷_, map}
@@ -34,7 +35,8 @@ module _ (s : List ℕ) (out : List ℤ) where
   unfolding scriptOf
   ok-left e = go (refuses (firstOf (checkRows s))) (ltb (length out) 4) refl e
     where
-      go : (b small : Bool) → refuses (firstOf (checkRows s)) ≡ b → refuses (resultBy b small s out .answer) ≡ false → resultBy b small s out .left ≡ written (resultWords (fit .words)) out
+      go : (b small : Bool) → refuses (firstOf (checkRows s)) ≡ b → refuses (resultBy b small s out .answer) ≡ false →
+          resultBy b small s out .left ≡ written (resultWords (fit .words)) out
       go true small f r = absurd (true≢false (sym f ∙ r))
       go false true f r = absurd (true≢false r)
       go false false f r = ap (λ (b : Bool). leftBy b (fit .words) out) r
@@ -44,12 +46,15 @@ same-words : (a : Answer) (r q : List ℤ) → (refuses a ≡ false → r ≡ q)
 unfolding answerWords
 same-words a r q f = go (refuses a) refl
   where
-    go : (b : Bool) → refuses a ≡ b → _≡_ {A = List ℕ} (numberOf a ∷ placeOf a ∷ cond b [] (map bitsOf r)) (numberOf a ∷ placeOf a ∷ cond b [] (map bitsOf q))
+    go : (b : Bool) → refuses a ≡ b →
+        _≡_ {A = List ℕ} (numberOf a ∷ placeOf a ∷ cond b [] (map bitsOf r))
+        (numberOf a ∷ placeOf a ∷ cond b [] (map bitsOf q))
     go true e = refl
     go false e = ap (λ (l : List ℤ). numberOf a ∷ placeOf a ∷ map bitsOf l) (f e)
 
 -- so the words of the answer are the program's
-pub program-words : (s : List ℕ) → answerWords (scriptOf s lent .answer) (resultIn (scriptOf s lent .left)) ≡ programWords s
+pub program-words : (s : List ℕ) →
+    answerWords (scriptOf s lent .answer) (resultIn (scriptOf s lent .left)) ≡ programWords s
 unfolding programWords
 program-words s = same-words (scriptOf s lent .answer) _ _ held
   where
@@ -59,7 +64,8 @@ program-words s = same-words (scriptOf s lent .answer) _ _ held
     few : length (fitted (length lent - 4) (stepsIn s) .words) < 4294967296
     few = omega (arith, within-room (length lent - 4) (stepsIn s), room)
 
-    held : refuses (scriptOf s lent .answer) ≡ false → resultIn (scriptOf s lent .left) ≡ resultWords (fitted 16380 (stepsIn s) .words)
+    held : refuses (scriptOf s lent .answer) ≡ false →
+        resultIn (scriptOf s lent .left) ≡ resultWords (fitted 16380 (stepsIn s) .words)
     held e =
         ap resultIn (ok-left s lent e) ∙ result-held (fitted (length lent - 4) (stepsIn s) .words) lent few ∙
         ap (λ (n : ℕ). resultWords (fitted n (stepsIn s) .words)) room

@@ -1,4 +1,5 @@
--- The program's answer (01, "The script"): number, place and, if OK, the result, as words of four bytes, the least first.
+-- The program's answer (01, "The script"): number, place and, if OK, the result, as words of four
+-- bytes, the least first.
 use mathlib.Core.Path.{_≡_}
 use mathlib.Core.Bool.{cond}
 use mathlib.Core.List.{List, [], _∷_, _++_, map}
@@ -28,7 +29,8 @@ laid bytes i ws = take (4 * i) bytes ++ (bytesOf ws ++ drop (4 * i + 4 * length 
 unfoldable pub answerWords : Answer → List ℤ → List ℕ
 answerWords a result = numberOf a ∷ placeOf a ∷ cond (refuses a) [] (map bitsOf result)
 
--- the result that an output holds: its header, and as many record words as the header's last word says
+-- the result that an output holds: its header, and as many record words as the header's last word
+-- says
 unfoldable pub resultIn : List ℤ → List ℤ
 resultIn out = take (4 + bitsOf (getD out 3 (pos 0))) out
 

@@ -21,7 +21,8 @@ fn store(bytes: &mut [u8], i: usize, word: u32)
     bytes[at + 3] = (word / 16777216 % 256) as u8;
 }
 
-// How many words of an output are the result: its header, and the record words that the header names.
+// How many words of an output are the result: its header, and the record words that the header
+// names.
 pub(crate) fn result_words(out: &[i32]) -> usize
     ensures { λ r. ⌜ r ≡ length (resultIn (now (out .entry))) ⌝ }
 {
@@ -41,10 +42,12 @@ fn encode(out: &[i32], words: usize, bytes: &mut [u8])
     }
 }
 
-// An answer and, if it is OK, the result that an output holds, at the start of some bytes; how many bytes that is.
+// An answer and, if it is OK, the result that an output holds, at the start of some bytes; how many
+// bytes that is.
 pub(crate) fn answered(answer: Answer, out: &[i32], bytes: &mut [u8]) -> usize
     requires { ⌜ 4 * length (now out) + 8 ≤ length (now bytes) ⌝ }
-    ensures { λ r. ⌜ Answered (answerWords answer (resultIn (now (out .entry)))) (now (bytes .entry)) r (now (bytes .exit)) ⌝ }
+    ensures { λ r. ⌜ Answered (answerWords answer (resultIn (now (out .entry)))) (now (bytes .entry)) r
+        (now (bytes .exit)) ⌝ }
 {
     store(bytes, 0, answer.code());
     store(bytes, 1, (answer.place() % 4294967296) as u32);

@@ -1,5 +1,5 @@
-// Reads a script from standard input, runs it into 16,384 words, and writes the answer's number, its place and, if it is OK, the
-// result, as little-endian words.
+// Reads a script from standard input, runs it into 16,384 words, and writes the answer's number,
+// its place and, if it is OK, the result, as little-endian words.
 mod encode;
 
 ghost use Prim.Native.Nat.{_≤_};

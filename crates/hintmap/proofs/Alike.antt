@@ -31,7 +31,9 @@ alike-append (cons p a) b = cons p (alike-append a b)
 -- one after the other
 pub alike-trans : {xs ys zs : List Hint} → Alike xs ys → Alike ys zs → Alike xs zs
 alike-trans nil nil = nil
-alike-trans (cons p a) (cons q b) = cons (record { kind = p .kind ∙ q .kind; index = p .index ∙ q .index; level = p .level ∙ q .level }) (alike-trans a b)
+alike-trans (cons p a) (cons q b) =
+    cons (record { kind = p .kind ∙ q .kind; index = p .index ∙ q .index; level = p .level ∙ q .level })
+    (alike-trans a b)
 
 -- an edge stored that differs on the device only
 pub alike-set : (es : List Hint) (k : ℕ) (e : Hint) → Like (getD es k noHint) e → Alike es (set es k e)
@@ -59,6 +61,12 @@ order-like p q l = omega heights
 -- whole stems stay whole
 pub stems-alike : {xs ys : List Hint} → Alike xs ys → WholeStems xs → WholeStems ys
 stems-alike nil none = none
-stems-alike (cons p a) (one s f r) = one (record { single = sym (ap pairK (p .kind)) ∙ s .single }) (past-like _ _ (p .level) a f) (stems-alike a r)
+stems-alike (cons p a) (one s f r) =
+    one (record { single = sym (ap pairK (p .kind)) ∙ s .single }) (past-like _ _ (p .level) a f) (stems-alike a r)
 stems-alike (cons p (cons q a)) (two s o f r) =
-    two (record { bottom = sym (p .kind) ∙ s .bottom; top = sym (q .kind) ∙ s .top; own = sym (p .index) ∙ s .own ∙ q .index }) (order-like (p .level) (q .level) o) (past-like _ _ (q .level) a f) (stems-alike a r)
+    two (record {
+      bottom = sym (p .kind) ∙ s .bottom;
+      top = sym (q .kind) ∙ s .top;
+      own = sym (p .index) ∙ s .own ∙
+          q .index;
+    }) (order-like (p .level) (q .level) o) (past-like _ _ (q .level) a f) (stems-alike a r)

@@ -33,11 +33,14 @@ enters-room n (One e) h = omega (arith, enters-any n (One e) h)
 enters-room n (Two b t) h = omega (arith, enters-two n b t h)
 
 -- placed again or not, it may enter as before
-again-enters : (n : ℕ) (b : Bool) (es : List Hint) (s₀ s : Fixed) (e : Edges) → mayEnter n (placedBy b es s₀ s e) ≡ mayEnter n e
+again-enters : (n : ℕ) (b : Bool) (es : List Hint) (s₀ s : Fixed) (e : Edges) →
+    mayEnter n (placedBy b es s₀ s e) ≡ mayEnter n e
 unfolding mayEnter again
 again-enters n true es s₀ s (One e) = refl
 again-enters n true es s₀ s (Two b t) = refl
 again-enters n false es s₀ s e = refl
 
-pub placed-enters : (m : HintMap) (e : Edges) (initial : HintMap) (given : Bool) → mayEnter (m .len) (placedFor m e initial given) ≡ mayEnter (m .len) e
-placed-enters m e initial given = again-enters (m .len) (not (firstEdge e .locked) && given) (view initial) (initial .scale) (m .scale) e
+pub placed-enters : (m : HintMap) (e : Edges) (initial : HintMap) (given : Bool) →
+    mayEnter (m .len) (placedFor m e initial given) ≡ mayEnter (m .len) e
+placed-enters m e initial given =
+    again-enters (m .len) (not (firstEdge e .locked) && given) (view initial) (initial .scale) (m .scale) e

@@ -28,11 +28,15 @@ unfolding chosen
 by-valid b t x y p q g = rw (p, q) g
 
 -- two edges of the kinds that a shape has
-by-shape : (h : Shape) (i : ℕ) (s : Fixed) (b t : Hint) → b .kind ≡ edgeOf h Bottom i s .kind → t .kind ≡ edgeOf h Top i s .kind → b .index ≡ t .index → Made (chosen b t)
+by-shape : (h : Shape) (i : ℕ) (s : Fixed) (b t : Hint) → b .kind ≡ edgeOf h Bottom i s .kind →
+    t .kind ≡ edgeOf h Top i s .kind → b .index ≡ t .index → Made (chosen b t)
 unfolding edgeOf Made
-by-shape (BottomGhost h) i s b t p q o = by-valid b t true false (ap validK p) (ap validK q) (record { single = ap pairK p })
-by-shape (TopGhost h) i s b t p q o = by-valid b t false true (ap validK p) (ap validK q) (record { single = ap pairK q })
-by-shape (Pair l h) i s b t p q o = by-valid b t true true (ap validK p) (ap validK q) (record { bottom = p; top = q; own = o })
+by-shape (BottomGhost h) i s b t p q o =
+    by-valid b t true false (ap validK p) (ap validK q) (record { single = ap pairK p })
+by-shape (TopGhost h) i s b t p q o =
+    by-valid b t false true (ap validK p) (ap validK q) (record { single = ap pairK q })
+by-shape (Pair l h) i s b t p q o =
+    by-valid b t true true (ap validK p) (ap validK q) (record { bottom = p; top = q; own = o })
 
 module _ (st : StemHint) (i : ℕ) (s : Fixed) where
   -- two edges that differ from those of a stem on the device only are made

@@ -1,5 +1,5 @@
--- On a list in never-falling height the mapping goes by the last edge at or below, by the first with the map's scale where all are above, and by the scale where there is none.
--- Assumes nothing.
+-- On a list in never-falling height the mapping goes by the last edge at or below, by the first
+-- with the map's scale where all are above, and by the scale where there is none. Assumes nothing.
 use mathlib.Core.Path.{_≡_, refl, ap}
 use mathlib.Core.Bool.{Bool, true, false, and-false}
 use mathlib.Core.List.{List, [], _∷_}
@@ -22,7 +22,8 @@ tail-ascends : (e : Hint) (es : List Hint) → Ascends (e ∷ es) → Ascends es
 tail-ascends e es s i j l k = s (suc i) (suc j) (omega arith) (omega arith)
 
 -- nothing is passed where the next edge is above
-reach-none : (es : List Hint) (h : Fixed) → (0 < length es → h .bits <ℤ height (getD es 0 noHint) .bits) → reach es h ≡ 0
+reach-none : (es : List Hint) (h : Fixed) → (0 < length es → h .bits <ℤ height (getD es 0 noHint) .bits) →
+    reach es h ≡ 0
 unfolding leading
 reach-none [] h a = refl
 reach-none (x ∷ xs) h a =
@@ -42,9 +43,14 @@ reach-last e (x ∷ xs) h (suc k) s l =
     rw t
     (ap suc
     (reach-last x xs h k (tail-ascends e (x ∷ xs) s)
-    (record { there = omega (arith, l .there); below = l .below; last = λ j p q. l .last (suc j) (omega arith) (omega arith) })))
+    (record {
+      there = omega (arith, l .there);
+      below = l .below;
+      last = λ j p q. l .last (suc j) (omega arith) (omega arith);
+    })))
 
-map-last : (es : List Hint) (s h : Fixed) (k : ℕ) → Ascends es → Last es h k → mapOf es s h ≡ line (getD es k noHint) (getD es k noHint .scale) h
+map-last : (es : List Hint) (s h : Fixed) (k : ℕ) → Ascends es → Last es h k →
+    mapOf es s h ≡ line (getD es k noHint) (getD es k noHint .scale) h
 unfolding mapOf
 map-last [] s h k a l = absurd (omega (arith, l .there))
 map-last (e ∷ es) s h k a l =
@@ -84,20 +90,28 @@ mapped m h r =
       none = map-none (view m) (m .scale) h;
     }
 
--- of any list and height there is a last edge at or below, or all edges are above (as where there are none)
+-- of any list and height there is a last edge at or below, or all edges are above (as where there
+-- are none)
 pub data Serves (es : List Hint) (h : Fixed) : Type 0 where
   below : (k : ℕ) → Last es h k → Serves es h
   above : Above es h → Serves es h
 
 module _ (e : Hint) (es : List Hint) (h : Fixed) where
   -- what holds past the first edge holds past it one place on
-  later : (k : ℕ) → ((j : ℕ) → k ≤ j → j < length es → h .bits <ℤ height (getD es j noHint) .bits) → (j : ℕ) → k < j → j < length (e ∷ es) → h .bits <ℤ height (getD (e ∷ es) j noHint) .bits
+  later : (k : ℕ) → ((j : ℕ) → k ≤ j → j < length es → h .bits <ℤ height (getD es j noHint) .bits) → (j : ℕ) → k < j →
+      j < length (e ∷ es) → h .bits <ℤ height (getD (e ∷ es) j noHint) .bits
   later k a zero p r = absurd (omega arith)
   later k a (suc j) p r = a j (omega arith) (omega arith)
 
   serves-by : (t : Bool) → atMostF (height e) h ≡ t → Serves es h → Serves (e ∷ es) h
-  serves-by t q (below k l) = below (suc k) (record { there = omega (arith, l .there); below = l .below; last = later (suc k) (λ j p r. l .last j p r) })
-  serves-by true q (above a) = below 0 (record { there = omega arith; below = omega heights; last = later 0 (λ j p r. a j r) })
+  serves-by t q (below k l) =
+      below (suc k) (record {
+        there = omega (arith, l .there);
+        below = l .below;
+        last = later (suc k) (λ j p r. l .last j p r);
+      })
+  serves-by true q (above a) =
+      below 0 (record { there = omega arith; below = omega heights; last = later 0 (λ j p r. a j r) })
   serves-by false q (above a) = above all
     where
       all : (j : ℕ) → j < length (e ∷ es) → h .bits <ℤ height (getD (e ∷ es) j noHint) .bits

@@ -1,4 +1,5 @@
--- What stands beside a place of a map, and how many edges lead it, read in the map's array. Assumes nothing.
+-- What stands beside a place of a map, and how many edges lead it, read in the map's array. Assumes
+-- nothing.
 use mathlib.Core.Path.{_≡_, refl, sym, ap, _∙_}
 use mathlib.Core.Bool.{Bool, true, false, not}
 use mathlib.Core.List.{List, [], _∷_}
@@ -35,14 +36,17 @@ module _ (m : HintMap) (held : Held m) (fits : m .len ≤ 96) (at : ℕ) where
   past : m .len ≤ at → drop at (view m) ≡ []
   past l = drop-of-length-le (view m) {i = at} (simp length-take (omega arith))
 
--- a test of the edges from a place on, in the words of code that asks the edge there and has the answer r
+-- a test of the edges from a place on, in the words of code that asks the edge there and has the
+-- answer r
 pub record Asked (m : HintMap) (f : Hint → Bool) : Type 0 where
-  pub clear : (at : ℕ) {r : Bool} → at < m .len → r ≡ f (getD (m .edges) at noHint) → not r ≡ clearAhead f (drop at (view m))
+  pub clear : (at : ℕ) {r : Bool} → at < m .len → r ≡ f (getD (m .edges) at noHint) →
+      not r ≡ clearAhead f (drop at (view m))
   pub none : (at : ℕ) → m .len ≤ at → true ≡ clearAhead f (drop at (view m))
   -- k edges passed, and those that lead from the place: one more is passed, or no more are
   pub passes : (k at : ℕ) {r : Bool} → at < m .len → r ≡ f (getD (m .edges) at noHint) → not r ≡ false →
       k + leading f (drop at (view m)) ≡ k + 1 + leading f (drop (at + 1) (view m))
-  pub stops : (k at : ℕ) {r : Bool} → at < m .len → r ≡ f (getD (m .edges) at noHint) → not r ≡ true → k + leading f (drop at (view m)) ≡ k
+  pub stops : (k at : ℕ) {r : Bool} → at < m .len → r ≡ f (getD (m .edges) at noHint) → not r ≡ true →
+      k + leading f (drop at (view m)) ≡ k
   pub ends : (k at : ℕ) → m .len ≤ at → k + leading f (drop at (view m)) ≡ k
 
 pub asked : (m : HintMap) → Held m → m .len ≤ 96 → (f : Hint → Bool) → Asked m f
@@ -58,7 +62,8 @@ asked m held fits f =
 
 -- the edge before a place
 module _ (f : Hint → Bool) where
-  pub behind-at : (es : List Hint) (n at : ℕ) {r : Bool} → 0 < at → at ≤ n → r ≡ f (getD es (at - 1) noHint) → not r ≡ clearBehind f (take n es) at
+  pub behind-at : (es : List Hint) (n at : ℕ) {r : Bool} → 0 < at → at ≤ n → r ≡ f (getD es (at - 1) noHint) →
+      not r ≡ clearBehind f (take n es) at
   unfolding clearBehind
   behind-at es n zero p l e = absurd (omega arith)
   behind-at es n (suc at) p l e =

@@ -1,4 +1,5 @@
--- What an insertion comes to: where a test fails, the same map; where all hold, the edges that were asked for, at their place. Assumes nothing.
+-- What an insertion comes to: where a test fails, the same map; where all hold, the edges that were
+-- asked for, at their place. Assumes nothing.
 use mathlib.Core.Path.{_≡_, refl, ap, _∙_}
 use mathlib.Core.Bool.{Bool, true, false, not, _&&_}
 use mathlib.Core.List.{List, _++_}
@@ -12,14 +13,16 @@ use Rattle.hintmap.specs.declared.insert.Edges.the-variants.{One, Two}
 use Rattle.hintmap.specs.declared.insert.Outcome.{Outcome}
 use Rattle.hintmap.specs.declared.insert.Outcome.the-variants as outcome
 use Rattle.hintmap.specs.Map.{view}
-use Rattle.hintmap.specs.Insert.{firstEdge, edgesOf, mayEnter, again, placedBy, charClear, belowClear, aboveClear, putEdges, placeFor, placedFor, onlyIf, outcomeOf, insertBy, insertIn}
+use Rattle.hintmap.specs.Insert.{firstEdge, edgesOf, mayEnter, again, placedBy, charClear, belowClear, aboveClear}
+use Rattle.hintmap.specs.Insert.{putEdges, placeFor, placedFor, onlyIf, outcomeOf, insertBy, insertIn}
 use Rattle.hintmap.specs.WholeStems.{Alike, nil, cons}
 use Rattle.hintmap.proofs.Alike.{like-device, alike-refl}
 use Rattle.hintmap.proofs.Near.{place-below}
 use Rattle.hintmap.proofs.Enter.{placed-enters}
 use Rattle.hintmap.proofs.View.{view-edges}
 
--- each test, where it fails, brings about P: of order and room, of the edge at the place in character height, of the edge before it and of it on the device
+-- each test, where it fails, brings about P: of order and room, of the edge at the place in
+-- character height, of the edge before it and of it on the device
 pub record Fails (m : HintMap) (e : Edges) (initial : HintMap) (given : Bool) (P : Type 0) : Type 0 where
   pub entry : mayEnter (m .len) e ≡ false → P
   pub character : charClear (drop (placeFor m e) (view m)) e ≡ false → P
@@ -43,7 +46,8 @@ Fits m (outcome.Enters at e) = (at ≤ m .len) × (mayEnter (m .len) e ≡ true)
 Fits m outcome.Dropped = Unit {0}
 
 -- placed again or not, it differs on the device only
-again-alike : (b : Bool) (es : List Hint) (s₀ s : Fixed) (e : Edges) → Alike (edgesOf e) (edgesOf (placedBy b es s₀ s e))
+again-alike : (b : Bool) (es : List Hint) (s₀ s : Fixed) (e : Edges) →
+    Alike (edgesOf e) (edgesOf (placedBy b es s₀ s e))
 unfolding again
 again-alike true es s₀ s (One e) = cons (like-device e _) nil
 again-alike true es s₀ s (Two b t) = cons (like-device b _) (cons (like-device t _) nil)
@@ -68,7 +72,9 @@ module _ (m : HintMap) (e : Edges) (initial : HintMap) (given : Bool) where
         entry = λ t. rw t;
         character = λ t. rw t (either (mayEnter (m .len) e));
         below = λ t. rw (t, either (charClear (drop at (view m)) e)) (either (mayEnter (m .len) e));
-        above = λ t. rw (t, either (belowClear (view m) at p), either (charClear (drop at (view m)) e)) (either (mayEnter (m .len) e));
+        above =
+            λ t. rw (t, either (belowClear (view m) at p), either (charClear (drop at (view m)) e))
+            (either (mayEnter (m .len) e));
       }
 
   -- what is not entered leaves the map
@@ -95,14 +101,19 @@ module _ (m : HintMap) (e : Edges) (initial : HintMap) (given : Bool) where
   pub placed-same : Alike (edgesOf e) (edgesOf p)
   placed-same = again-alike (not (firstEdge e .locked) && given) (view initial) (initial .scale) (m .scale) e
 
-  -- what holds of edges that are dropped, and of those that enter by all tests, holds of the outcome
-  cases : (Q : Outcome → Type 0) → Q outcome.Dropped → (Clear m e initial given → Q (outcome.Enters at p)) → Q (outcomeOf m e initial given)
+  -- what holds of edges that are dropped, and of those that enter by all tests, holds of the
+  -- outcome
+  cases : (Q : Outcome → Type 0) → Q outcome.Dropped → (Clear m e initial given → Q (outcome.Enters at p)) →
+      Q (outcomeOf m e initial given)
   unfolding outcomeOf
   cases Q same put =
-      go (mayEnter (m .len) e) refl (charClear (drop at (view m)) e) refl (belowClear (view m) at p) refl (aboveClear (drop at (view m)) p) refl
+      go (mayEnter (m .len) e) refl (charClear (drop at (view m)) e) refl (belowClear (view m) at p) refl
+      (aboveClear (drop at (view m)) p) refl
     where
-      go : (a : Bool) → mayEnter (m .len) e ≡ a → (b : Bool) → charClear (drop at (view m)) e ≡ b → (c : Bool) → belowClear (view m) at p ≡ c →
-          (d : Bool) → aboveClear (drop at (view m)) p ≡ d → Q (onlyIf a (onlyIf b (onlyIf c (onlyIf d (outcome.Enters at p)))))
+      go : (a : Bool) → mayEnter (m .len) e ≡ a → (b : Bool) → charClear (drop at (view m)) e ≡ b → (c : Bool) →
+          belowClear (view m) at p ≡ c →
+          (d : Bool) → aboveClear (drop at (view m)) p ≡ d →
+          Q (onlyIf a (onlyIf b (onlyIf c (onlyIf d (outcome.Enters at p)))))
       go true f true g true h true k = put (record { entry = f; character = g; below = h; above = k })
       go true f true g true h false k = same
       go true f true g false h d k = same
@@ -110,7 +121,8 @@ module _ (m : HintMap) (e : Edges) (initial : HintMap) (given : Bool) where
       go false f b g c h d k = same
 
   -- what holds of the map, and of the map with the edges put in, holds after the insertion
-  pub by-outcome : (P : HintMap → Type 0) → P m → (Clear m e initial given → P (putEdges m at p)) → P (insertIn m e initial given)
+  pub by-outcome : (P : HintMap → Type 0) → P m → (Clear m e initial given → P (putEdges m at p)) →
+      P (insertIn m e initial given)
   unfolding insertIn
   by-outcome P same put = cases (λ (o : Outcome). P (insertBy o m)) same put
 
@@ -120,9 +132,11 @@ module _ (m : HintMap) (e : Edges) (initial : HintMap) (given : Bool) where
 
   module _ (long : length (m .edges) ≡ 96) where
     -- the edges of the map with those put in
-    pub view-placed : mayEnter (m .len) e ≡ true → view (putEdges m at p) ≡ take at (view m) ++ (edgesOf p ++ drop at (view m))
+    pub view-placed : mayEnter (m .len) e ≡ true →
+        view (putEdges m at p) ≡ take at (view m) ++ (edgesOf p ++ drop at (view m))
     view-placed f = view-edges m at (place-below m _) long p (placed-enters m e initial given ∙ f)
 
     -- what is entered is what was asked for, at the place that 01 says
-    pub entered : Clear m e initial given → view (insertIn m e initial given) ≡ take at (view m) ++ (edgesOf p ++ drop at (view m))
+    pub entered : Clear m e initial given →
+        view (insertIn m e initial given) ≡ take at (view m) ++ (edgesOf p ++ drop at (view m))
     entered c = ap view (inserted c) ∙ view-placed (c .entry)

@@ -1,4 +1,5 @@
--- Any two outcomes that meet the contract of a public function are equal, over that contract as the toolchain reads it. Assumes nothing.
+-- Any two outcomes that meet the contract of a public function are equal, over that contract as the
+-- toolchain reads it. Assumes nothing.
 use mathlib.Core.Path.{_≡_, sym, _∙_}
 use mathlib.Core.Bool.{Bool}
 use contract.Lifetimes.{Lfts}
@@ -18,7 +19,8 @@ module _ (κs : Lfts 0) (r r′ : HintMap) where
   new-unique s p q = p ∙ sym q
 
   module _ (m : HintMap) where
-    pub invalidate-unique : invalidate-reads.Post κs (m, tt) r (m, tt) → invalidate-reads.Post κs (m, tt) r′ (m, tt) → r ≡ r′
+    pub invalidate-unique : invalidate-reads.Post κs (m, tt) r (m, tt) → invalidate-reads.Post κs (m, tt) r′ (m, tt) →
+        r ≡ r′
     invalidate-unique p q = p ∙ sym q
 
     pub validate-unique : validate-reads.Post κs (m, tt) r (m, tt) → validate-reads.Post κs (m, tt) r′ (m, tt) → r ≡ r′
@@ -30,9 +32,11 @@ module _ (κs : Lfts 0) (r r′ : HintMap) where
     insert-unique e i g p q = p ∙ sym q
 
 module _ (κs : Lfts 0) (m : HintMap) (h : Fixed) (r r′ : Fixed) where
-  pub transform-unique : transform-reads.Post κs (m, (h, tt)) r (m, (h, tt)) → transform-reads.Post κs (m, (h, tt)) r′ (m, (h, tt)) → r ≡ r′
+  pub transform-unique : transform-reads.Post κs (m, (h, tt)) r (m, (h, tt)) →
+      transform-reads.Post κs (m, (h, tt)) r′ (m, (h, tt)) → r ≡ r′
   transform-unique p q = p ∙ sym q
 
 module _ (κs : Lfts 0) (b t : Hint) (r r′ : Edges) where
-  pub choose-unique : choose-reads.Post κs (b, (t, tt)) r (b, (t, tt)) → choose-reads.Post κs (b, (t, tt)) r′ (b, (t, tt)) → r ≡ r′
+  pub choose-unique : choose-reads.Post κs (b, (t, tt)) r (b, (t, tt)) →
+      choose-reads.Post κs (b, (t, tt)) r′ (b, (t, tt)) → r ≡ r′
   choose-unique p q = p ∙ sym q

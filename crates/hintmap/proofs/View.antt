@@ -17,7 +17,8 @@ use Rattle.hintmap.proofs.Enter.{enters-room}
 abbrev pub put : List Hint → ℕ → Edges → List Hint
 put es at e = putAt es at (edgesOf e)
 
-module _ (m : HintMap) (at : ℕ) (l : at ≤ m .len) (r : length (m .edges) ≡ 96) (e : Edges) (f : mayEnter (m .len) e ≡ true) where
+module _ (m : HintMap) (at : ℕ) (l : at ≤ m .len) (r : length (m .edges) ≡ 96) (e : Edges)
+    (f : mayEnter (m .len) e ≡ true) where
   room : m .len + length (edgesOf e) ≤ 96
   room = enters-room (m .len) e f
 
@@ -27,10 +28,14 @@ module _ (m : HintMap) (at : ℕ) (l : at ≤ m .len) (r : length (m .edges) ≡
   -- what may enter is put as in the list
   pub view-edges : view (putEdges m at e) ≡ put (view m) at e
   unfolding putEdges
-  view-edges = take-at (put (view m) at e) (drop (m .len + length (edgesOf e)) (m .edges)) (m .len + length (edgesOf e)) grown
+  view-edges =
+      take-at (put (view m) at e) (drop (m .len + length (edgesOf e)) (m .edges)) (m .len + length (edgesOf e)) grown
 
   -- and its map has no more than 96
   pub put-sized : (putEdges m at e .len ≤ 96) × (length (putEdges m at e .edges) ≡ 96)
   unfolding putEdges
-  put-sized =
-      (room, length-append (put (view m) at e) (drop (m .len + length (edgesOf e)) (m .edges)) ∙ rw (grown, length-drop) (omega (arith, room)))
+  put-sized = (
+    room,
+    length-append (put (view m) at e) (drop (m .len + length (edgesOf e)) (m .edges)) ∙
+        rw (grown, length-drop) (omega (arith, room)),
+  )

@@ -1,4 +1,5 @@
--- The edge that serves a height, in the words of the walk: up past the edges at or below it, and from there no way back. Assumes nothing.
+-- The edge that serves a height, in the words of the walk: up past the edges at or below it, and
+-- from there no way back. Assumes nothing.
 use mathlib.Core.Path.{_≡_, refl, sym, ap, _∙_}
 use mathlib.Core.Bool.{Bool, true, false, _&&_}
 use mathlib.Core.List.{List, [], _∷_}
@@ -17,11 +18,18 @@ use Rattle.hintmap.proofs.Near.{leading-within}
 
 -- the upward walk ends at an edge
 reach-below : (n : ℕ) (es : List Hint) (h : Fixed) → 0 < n → reach (drop 1 (take n es)) h < n
-reach-below n es h p = omega (arith, leading-within (λ (e : Hint). atMostF (e .«cs_coord») h) (drop 1 (take n es)), length-drop 1 (take n es), length-take n es)
+reach-below n es h p =
+    omega (
+      arith,
+      leading-within (λ (e : Hint). atMostF (e .«cs_coord») h) (drop 1 (take n es)),
+      length-drop 1 (take n es),
+      length-take n es,
+    )
 
 -- the mapping by an array that has an edge
 pub map-some : (es : List Hint) (n : ℕ) (s h : Fixed) → 0 < n → n ≤ length es →
-    mapOf (take n es) s h ≡ lineBy (eqb (reach (drop 1 (take n es)) h) 0 && lessF h (getD es 0 noHint .«cs_coord»)) (getD es 0 noHint) (getD es (reach (drop 1 (take n es)) h) noHint) s h
+    mapOf (take n es) s h ≡ lineBy (eqb (reach (drop 1 (take n es)) h) 0 && lessF h (getD es 0 noHint .«cs_coord»))
+    (getD es 0 noHint) (getD es (reach (drop 1 (take n es)) h) noHint) s h
 unfolding mapOf
 map-some es zero s h p l = absurd (omega arith)
 map-some [] (suc n) s h p l = absurd (omega arith)
@@ -30,8 +38,10 @@ map-some (e ∷ es) (suc n) s h p l =
     rw (getD-take (suc n) (e ∷ es) (reach (take n es) h) noHint k)
 
 -- an edge that the upward walk has passed is at or below the height
-passed-by : (t : Bool) (e : Hint) (es : List Hint) (h : Fixed) → ((i : ℕ) → i < reach es h → atMostF (getD es i noHint .«cs_coord») h ≡ true) →
-    atMostF (e .«cs_coord») h ≡ t → (i : ℕ) → i < countBy t (reach es h) → atMostF (getD (e ∷ es) i noHint .«cs_coord») h ≡ true
+passed-by : (t : Bool) (e : Hint) (es : List Hint) (h : Fixed) →
+    ((i : ℕ) → i < reach es h → atMostF (getD es i noHint .«cs_coord») h ≡ true) →
+    atMostF (e .«cs_coord») h ≡ t → (i : ℕ) → i < countBy t (reach es h) →
+    atMostF (getD (e ∷ es) i noHint .«cs_coord») h ≡ true
 passed-by true e es h ih p zero l = p
 passed-by true e es h ih p (suc i) l = ih i (omega arith)
 passed-by false e es h ih p i l = absurd (omega arith)
@@ -41,11 +51,14 @@ unfolding leading
 passed [] h i l = absurd (omega arith)
 passed (e ∷ es) h i l = passed-by (atMostF (e .«cs_coord») h) e es h (passed es h) refl i l
 
--- so from where the upward walk ends there is no way back: the edge there, if it is not the first, is not above the height
-pub no-way-back : (es : List Hint) (n : ℕ) (h : Fixed) (i : ℕ) → i ≡ reach (drop 1 (take n es)) h → 0 < i → i < n → lessF h (getD es i noHint .«cs_coord») ≡ false
+-- so from where the upward walk ends there is no way back: the edge there, if it is not the first,
+-- is not above the height
+pub no-way-back : (es : List Hint) (n : ℕ) (h : Fixed) (i : ℕ) → i ≡ reach (drop 1 (take n es)) h → 0 < i → i < n →
+    lessF h (getD es i noHint .«cs_coord») ≡ false
 no-way-back es n h zero r p l = absurd (omega arith)
 no-way-back es n h (suc i) r p l =
     let k : 1 + i ≡ suc i = omega arith in
     let e = rw k at (getD-drop 1 (take n es) i noHint) ∙ getD-take n es (suc i) noHint l in
-    let t : atMostF (getD es (suc i) noHint .«cs_coord») h ≡ true = ap (λ (x : Hint). atMostF (x .«cs_coord») h) (sym e) ∙ passed (drop 1 (take n es)) h i (omega arith) in
+    let t : atMostF (getD es (suc i) noHint .«cs_coord») h ≡
+    true = ap (λ (x : Hint). atMostF (x .«cs_coord») h) (sym e) ∙ passed (drop 1 (take n es)) h i (omega arith) in
     omega heights

@@ -17,7 +17,8 @@ use Rattle.hintmap.specs.declared.insert.Edges.{Edges}
 use Rattle.hintmap.specs.declared.insert.Edges.the-variants.{One, Two}
 use Rattle.stems.specs.Edge.{noHint, isPairTop, pairTopK}
 use Rattle.hintmap.specs.Map.{newMap, invalidMap, validMap, view, leading, placeAmong, countBy, clearAhead}
-use Rattle.hintmap.specs.Insert.{firstEdge, edgesOf, mayEnter, bars, charClear, putEdges, placeFor, placedFor, insertIn}
+use Rattle.hintmap.specs.Insert.{firstEdge, edgesOf, mayEnter, bars, charClear, putEdges, placeFor, placedFor}
+use Rattle.hintmap.specs.Insert.{insertIn}
 use Rattle.hintmap.specs.WholeStems.{height, Past, WholeStems, none, one, two, Made, Alike}
 use Rattle.hintmap.proofs.Tests.{both, neither}
 use Rattle.hintmap.proofs.Near.{place-below}
@@ -40,19 +41,23 @@ apart a b p q = go (lessF b a) refl
     go false e = absurd (not-same a b q (omega heights))
 
 -- what is put in, before a list that is above it
-front : (n : ℕ) (e : Edges) → Made e → mayEnter n e ≡ true → (xs : List Hint) → Past (height (top e)) xs → WholeStems xs → WholeStems (edgesOf e ++ xs)
+front : (n : ℕ) (e : Edges) → Made e → mayEnter n e ≡ true → (xs : List Hint) → Past (height (top e)) xs →
+    WholeStems xs → WholeStems (edgesOf e ++ xs)
 unfolding Made mayEnter top
 front n (One x) s f xs p r = one s p r
 front n (Two b t) s f xs p r =
-    let o : lessF (height t) (height b) ≡ false = not-true _ (both (not (lessF (height t) (height b))) (ltb n 95) f .0) in
+    let o : lessF (height t) (height b) ≡
+    false = not-true _ (both (not (lessF (height t) (height b))) (ltb n 95) f .0) in
     two s (omega heights) p r
 
 -- the edge x at the place does not bar it: x is above all that is put in
-above : (e : Edges) (x : Hint) → lessF (height x) (height (firstEdge e)) ≡ false → bars x e ≡ false → height (top e) .bits <ℤ height x .bits
+above : (e : Edges) (x : Hint) → lessF (height x) (height (firstEdge e)) ≡ false → bars x e ≡ false →
+    height (top e) .bits <ℤ height x .bits
 unfolding bars top
 above (One y) x p q = apart (height x) (height y) p (neither _ (isPairTop x) q .0)
 above (Two b t) x p q =
-    let u : atMostF (height x) (height t) ≡ false = neither (isPairTop x) _ (neither (sameF (height x) (height b)) _ q .1) .1 in
+    let u : atMostF (height x) (height t) ≡
+    false = neither (isPairTop x) _ (neither (sameF (height x) (height b)) _ q .1) .1 in
     omega heights
 
 -- and no pair's top
@@ -62,7 +67,8 @@ bars-top (One y) x q = neither (sameF (height x) (height y)) _ q .1
 bars-top (Two b t) x q = neither _ (atMostF (height x) (height t)) (neither (sameF (height x) (height b)) _ q .1) .0
 
 -- what is put in above z stays above z
-past-put : (e : Edges) (z : Fixed) (es : List Hint) (at : ℕ) → Past z es → z .bits <ℤ height (firstEdge e) .bits → Past z (put es at e)
+past-put : (e : Edges) (z : Fixed) (es : List Hint) (at : ℕ) → Past z es → z .bits <ℤ height (firstEdge e) .bits →
+    Past z (put es at e)
 unfolding Past
 past-put (One y) z es zero f l = l
 past-put (One y) z [] (suc at) f l = l
@@ -79,7 +85,8 @@ module _ (n : ℕ) (e : Edges) (made : Made e) (fits : mayEnter n e ≡ true) wh
   Free es = charClear es e ≡ true
 
   -- before an edge that is not below it and does not bar it
-  before : (x : Hint) (xs : List Hint) → lessF (height x) (height (firstEdge e)) ≡ false → Free (x ∷ xs) → WholeStems (x ∷ xs) → WholeStems (edgesOf e ++ (x ∷ xs))
+  before : (x : Hint) (xs : List Hint) → lessF (height x) (height (firstEdge e)) ≡ false → Free (x ∷ xs) →
+      WholeStems (x ∷ xs) → WholeStems (edgesOf e ++ (x ∷ xs))
   unfolding Past clearAhead
   before x xs q c r = front n e made fits (x ∷ xs) (above e x q (not-true (bars x e) c)) r
 
@@ -88,15 +95,20 @@ module _ (n : ℕ) (e : Edges) (made : Made e) (fits : mayEnter n e ≡ true) wh
   stems-put none c = front n e made fits [] tt none
   stems-put (one {x} {xs} s f r) c = go (lessF (height x) (height (firstEdge e))) refl (λ k. stems-put r k) c
     where
-      go : (b : Bool) → lessF (height x) (height (firstEdge e)) ≡ b → (Free (drop (at xs) xs) → WholeStems (put xs (at xs) e)) →
+      go : (b : Bool) → lessF (height x) (height (firstEdge e)) ≡ b →
+          (Free (drop (at xs) xs) → WholeStems (put xs (at xs) e)) →
           Free (drop (countBy b (at xs)) (x ∷ xs)) → WholeStems (put (x ∷ xs) (countBy b (at xs)) e)
       go true q ih c = one s (past-put e (height x) xs (at xs) f (omega heights)) (ih c)
       go false q ih c = before x xs q c (one s f r)
-  stems-put (two {b} {t} {xs} s o f r) c = go (lessF (height b) (height (firstEdge e))) refl (lessF (height t) (height (firstEdge e))) refl (λ k. stems-put r k) c
+  stems-put (two {b} {t} {xs} s o f r) c =
+      go (lessF (height b) (height (firstEdge e))) refl (lessF (height t) (height (firstEdge e))) refl
+      (λ k. stems-put r k) c
     where
-      go : (k : Bool) → lessF (height b) (height (firstEdge e)) ≡ k → (l : Bool) → lessF (height t) (height (firstEdge e)) ≡ l →
+      go : (k : Bool) → lessF (height b) (height (firstEdge e)) ≡ k → (l : Bool) →
+          lessF (height t) (height (firstEdge e)) ≡ l →
           (Free (drop (at xs) xs) → WholeStems (put xs (at xs) e)) →
-          Free (drop (countBy k (countBy l (at xs))) (b ∷ t ∷ xs)) → WholeStems (put (b ∷ t ∷ xs) (countBy k (countBy l (at xs))) e)
+          Free (drop (countBy k (countBy l (at xs))) (b ∷ t ∷ xs)) →
+          WholeStems (put (b ∷ t ∷ xs) (countBy k (countBy l (at xs))) e)
       go true q true q′ ih c = two s o (past-put e (height t) xs (at xs) f (omega heights)) (ih c)
       go true q false q′ ih c = absurd (true≢false (sym (ap pairTopK (s .top)) ∙ bars-top e t (not-true (bars t e) c)))
       go false q l q′ ih c = before b (t ∷ xs) q c (two s o f r)
@@ -119,20 +131,26 @@ pub valid-good : (m : HintMap) → Good m → Good (validMap m)
 valid-good m g = record { within = g .within; long = g .long; stems = g .stems }
 
 -- and when a stem's edges are put in or dropped
-pub insert-good : (m : HintMap) (e : Edges) (initial : HintMap) (given : Bool) → Made e → Good m → Good (insertIn m e initial given)
+pub insert-good : (m : HintMap) (e : Edges) (initial : HintMap) (given : Bool) → Made e → Good m →
+    Good (insertIn m e initial given)
 insert-good m e initial given made g = by-outcome m e initial given Good g entered
   where
     at : ℕ
     at = placeFor m e
 
     same : Alike (put (view m) at e) (put (view m) at (placedFor m e initial given))
-    same = alike-append (alike-refl (take at (view m))) (alike-append (placed-same m e initial given) (alike-refl (drop at (view m))))
+    same =
+        alike-append (alike-refl (take at (view m)))
+        (alike-append (placed-same m e initial given) (alike-refl (drop at (view m))))
 
     entered : Clear m e initial given → Good (putEdges m at (placedFor m e initial given))
     entered c =
-        let sized = put-sized m at (place-below m _) (g .long) (placedFor m e initial given) (placed-enters m e initial given ∙ c .entry) in
+        let sized = put-sized m at (place-below m _) (g .long) (placedFor m e initial given)
+        (placed-enters m e initial given ∙ c .entry) in
         record {
           within = sized .0;
           long = sized .1;
-          stems = rw (view-placed m e initial given (g .long) (c .entry)) (stems-alike same (stems-put (m .len) e made (c .entry) (g .stems) (c .character)));
+          stems =
+              rw (view-placed m e initial given (g .long) (c .entry))
+              (stems-alike same (stems-put (m .len) e made (c .entry) (g .stems) (c .character)));
         }

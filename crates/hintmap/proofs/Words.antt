@@ -16,7 +16,8 @@ use Rattle.stems.specs.Edge.{noHint, pairK, pairTopK}
 use Rattle.hintmap.specs.WholeStems.{height, Single, Pair, Past, WholeStems, none, one, two, Ascends}
 
 -- ---- heights never fall
-cons-ascends : (x : Hint) (xs : List Hint) → (0 < length xs → height x .bits ≤ℤ height (getD xs 0 noHint) .bits) → Ascends xs → Ascends (x ∷ xs)
+cons-ascends : (x : Hint) (xs : List Hint) → (0 < length xs → height x .bits ≤ℤ height (getD xs 0 noHint) .bits) →
+    Ascends xs → Ascends (x ∷ xs)
 cons-ascends x xs f s zero zero l k = omega heights
 cons-ascends x xs f s zero (suc j) l k =
     let a = f (omega arith) in
@@ -39,7 +40,8 @@ past-least z xs p l =
 pub stems-ascend : {es : List Hint} → WholeStems es → Ascends es
 stems-ascend none = λ i j l k. absurd (omega arith)
 stems-ascend (one {x} {xs} s f r) = cons-ascends x xs (past-least (height x) xs f) (stems-ascend r)
-stems-ascend (two {b} {t} {xs} s o f r) = cons-ascends b (t ∷ xs) (λ _. o) (cons-ascends t xs (past-least (height t) xs f) (stems-ascend r))
+stems-ascend (two {b} {t} {xs} s o f r) =
+    cons-ascends b (t ∷ xs) (λ _. o) (cons-ascends t xs (past-least (height t) xs f) (stems-ascend r))
 
 -- ---- bottoms and tops
 -- no edge is a bottom and a top, and a single edge is neither
@@ -80,7 +82,8 @@ next : (x : Hint) {xs : List Hint} → Past (height x) xs → WholeStems xs → 
 unfolding Beside
 next x {xs} f r l = inr (past-first (height x) xs f l, first-no-top r l)
 
-beside : {es : List Hint} → WholeStems es → (i : ℕ) → suc i < length es → Beside (getD es i noHint) (getD es (suc i) noHint)
+beside : {es : List Hint} → WholeStems es → (i : ℕ) → suc i < length es →
+    Beside (getD es i noHint) (getD es (suc i) noHint)
 unfolding Beside
 beside none i l = absurd (omega arith)
 beside (one {x} s f r) zero l = next x f r (omega arith)
@@ -99,10 +102,13 @@ top-bottom {es} r (suc i) l k =
     rw e (omega arith, ⊎-elim (λ p. p) (λ q. absurd (q .1 k)) (beside r i l))
 
 -- neighbours of one height are bottom and top of one stem
-pub shared : {es : List Hint} → WholeStems es → (i : ℕ) → i + 1 < length es → height (getD es i noHint) ≡ height (getD es (i + 1) noHint) →
+pub shared : {es : List Hint} → WholeStems es → (i : ℕ) → i + 1 < length es →
+    height (getD es i noHint) ≡ height (getD es (i + 1) noHint) →
     Pair (getD es i noHint) (getD es (i + 1) noHint)
 unfolding Beside
-shared {es} r i l e = rw (add-one i) (⊎-elim (λ p. p) (λ q. absurd (level (q .0) (rw (add-one i) at e))) (beside r i (rw (add-one i) at l)))
+shared {es} r i l e =
+    rw (add-one i) (⊎-elim (λ p. p) (λ q. absurd (level (q .0) (rw (add-one i) at e)))
+    (beside r i (rw (add-one i) at l)))
   where
     level : {a b : Fixed} → a .bits <ℤ b .bits → a ≡ b → ⊥
     level p q = omega heights

@@ -74,7 +74,8 @@ abbrev pub placedBy : Bool → List Hint → Fixed → Fixed → Edges → Edges
 placedBy true es s₀ s e = again es s₀ s e
 placedBy false es s₀ s e = e
 
--- the tests of the neighbours: the edge at the place, in character height and on the device, and the edge before it
+-- the tests of the neighbours: the edge at the place, in character height and on the device, and
+-- the edge before it
 abbrev pub charClear : List Hint → Edges → Bool
 charClear es e = clearAhead (λ (x : Hint). bars x e) es
 

@@ -1,5 +1,6 @@
--- What holds of the edges of every map: they are single edges and whole stems, each wholly above the one before. So neighbours
--- share a height only as bottom and top of one stem, and every pair's bottom is directly followed by its own top.
+-- What holds of the edges of every map: they are single edges and whole stems, each wholly above
+-- the one before. So neighbours share a height only as bottom and top of one stem, and every pair's
+-- bottom is directly followed by its own top.
 use mathlib.Core.Path.{_≡_}
 use mathlib.Core.Bool.{false}
 use mathlib.Core.List.{List, [], _∷_}
@@ -35,7 +36,8 @@ Past z (x ∷ xs) = z .bits <ℤ height x .bits
 pub data WholeStems : List Hint → Type 0 where
   none : WholeStems []
   one : {x : Hint} {xs : List Hint} → Single x → Past (height x) xs → WholeStems xs → WholeStems (x ∷ xs)
-  two : {b t : Hint} {xs : List Hint} → Pair b t → height b .bits ≤ℤ height t .bits → Past (height t) xs → WholeStems xs → WholeStems (b ∷ t ∷ xs)
+  two : {b t : Hint} {xs : List Hint} → Pair b t → height b .bits ≤ℤ height t .bits → Past (height t) xs →
+      WholeStems xs → WholeStems (b ∷ t ∷ xs)
 
 -- what is to be put in is one single edge, or the two of one stem
 unfoldable pub Made : Edges → Type 0

@@ -8,7 +8,8 @@ ghost use mathlib.Core.Path.{_≡_};
 ghost use mathlib.Core.Bool.{true, not, _&&_};
 ghost use Prim.Native.Nat.{_≤_};
 ghost use lib.ListN.{length};
-ghost use Rattle.hintmap.specs.Insert.{chosen, firstEdge, edgesOf, mayEnter, bars, tooHigh, under, middleOf, around, putEdges, outcomeOf, insertIn};
+ghost use Rattle.hintmap.specs.Insert.{chosen, firstEdge, edgesOf, mayEnter, bars, tooHigh, under, middleOf};
+ghost use Rattle.hintmap.specs.Insert.{around, putEdges, outcomeOf, insertIn};
 
 // What is put in: one edge, or the two of a pair.
 pub enum Edges {
@@ -16,7 +17,8 @@ pub enum Edges {
     Two(Hint, Hint),
 }
 
-// What an insertion comes to: the edges enter at a place, as they are then placed, or they are dropped.
+// What an insertion comes to: the edges enter at a place, as they are then placed, or they are
+// dropped.
 pub enum Outcome {
     Enters(usize, Edges),
     Dropped,
@@ -69,8 +71,9 @@ impl Edges {
         }
     }
 
-    // Whether the edge x at the place stands in the way in character height: it is at the same height, a pair would reach over it, or it
-    // is the top of a pair, into which the new edges would go.
+    // Whether the edge x at the place stands in the way in character height: it is at the same
+    // height, a pair would reach over it, or it is the top of a pair, into which the new edges
+    // would go.
     fn barred(self, x: Hint) -> bool
         ensures { λ r. ⌜ r ≡ bars x self ⌝ }
     {
@@ -137,7 +140,8 @@ impl Edges {
         }
     }
 
-    // Placed by a device height: a single edge there, a pair around it, so that the stem keeps the width that the scale gives it.
+    // Placed by a device height: a single edge there, a pair around it, so that the stem keeps the
+    // width that the scale gives it.
     fn around(self, device: Fixed, scale: Fixed) -> Edges
         ensures { λ r. ⌜ r ≡ around device scale self ⌝ }
     {
@@ -152,7 +156,8 @@ impl Edges {
 }
 
 impl HintMap {
-    // From `insert`: the place is before the first edge that is not under the edges, and the tests are of the edge there and of the one before.
+    // From `insert`: the place is before the first edge that is not under the edges, and the tests
+    // are of the edge there and of the one before.
     fn outcome(self, e: Edges, initial: HintMap, given: bool) -> Outcome
         ensures { λ r. ⌜ r ≡ outcomeOf self e initial given ⌝ }
     {
@@ -219,7 +224,8 @@ impl HintMap {
         self
     }
 
-    // Ports `HintMap::insert`: a stem's edges are put in, or dropped. The initial map counts where it is given.
+    // Ports `HintMap::insert`: a stem's edges are put in, or dropped. The initial map counts where
+    // it is given.
     pub fn insert(self, e: Edges, initial: HintMap, given: bool) -> HintMap
         ensures { λ r. ⌜ r ≡ insertIn self e initial given ⌝ }
     {

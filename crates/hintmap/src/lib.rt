@@ -1,4 +1,5 @@
-// A hint map: edges in never-falling character height, by which heights are carried to the device (01, "The map").
+// A hint map: edges in never-falling character height, by which heights are carried to the device
+// (01, "The map").
 mod insert;
 mod map;
 

@@ -52,7 +52,8 @@ impl HintMap {
         built
     }
 
-    // Ports `HintMap::transform`: upward from the first edge, past each next one that is at or below the height, and downward again past each that is above it.
+    // Ports `HintMap::transform`: upward from the first edge, past each next one that is at or
+    // below the height, and downward again past each that is above it.
     pub fn transform(self, height: Fixed) -> Fixed
         ensures { λ r. ⌜ r ≡ mapOf (view self) (self .scale) height ⌝ }
     {

@@ -25,7 +25,8 @@ module _ (m : HintMap) (s : Fixed) (from : Pen) (path : Path) where
   asked = strokeBy m s from path
 
   -- what `put` says and leaves of a stroke's records is what was drawn
-  pub put-drew : (b : Bool) {t : Stroke} {out left : List ℤ} → t ≡ asked → Put out (t .records) b left → Drew asked from out (countedBy b from t) left
+  pub put-drew : (b : Bool) {t : Stroke} {out left : List ℤ} → t ≡ asked → Put out (t .records) b left →
+      Drew asked from out (countedBy b from t) left
   put-drew b {t} {out} {left} e p = go b (rw e at p)
     where
       go : (b : Bool) → Put out (asked .records) b left → Drew asked from out (countedBy b from t) left
@@ -33,7 +34,9 @@ module _ (m : HintMap) (s : Fixed) (from : Pen) (path : Path) where
           rw e
           (record {
             number = ap (λ (x : Bool). cond x 0 6) (q .answer);
-            words = sym (path-whole m s from path) ∙ ap (λ (x : Bool). cond x (length (wordsOf (asked .records))) 0) (q .answer);
+            words =
+                sym (path-whole m s from path) ∙
+                ap (λ (x : Bool). cond x (length (wordsOf (asked .records))) 0) (q .answer);
             place = refl;
             pen = ap (λ (x : Bool). cond x (asked .pen) from) (q .answer);
             memory = q .memory;

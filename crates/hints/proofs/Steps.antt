@@ -1,4 +1,5 @@
--- Laws of the steps of a drawing, for whoever repeats them: hints that are ready stay so, a path call writes at most ten words, and what its answer says. Assumes nothing.
+-- Laws of the steps of a drawing, for whoever repeats them: hints that are ready stay so, a path
+-- call writes at most ten words, and what its answer says. Assumes nothing.
 use mathlib.Core.Path.{_≡_, refl, sym, ap, _∙_}
 use mathlib.Core.Bool.{Bool, true, false, cond}
 use mathlib.Core.List.{List}
@@ -88,9 +89,12 @@ pub record DrewNothing (t : Stroke) (from : Pen) (out : List ℤ) (said : Drawn)
 
 module _ {t : Stroke} {from : Pen} {out : List ℤ} {said : Drawn} {exit : List ℤ} (h : Drew t from out said exit) where
   pub drew-wrote : (k : ℕ) → said .answer ≡ Wrote k → DrewWords t out said k exit
-  drew-wrote k a = go (fits (wordsOf (t .records)) out) refl (ap callNumber (sym a) ∙ h .number) (ap callWords (sym a) ∙ h .words) (h .pen) (h .memory)
+  drew-wrote k a =
+      go (fits (wordsOf (t .records)) out) refl (ap callNumber (sym a) ∙ h .number) (ap callWords (sym a) ∙ h .words)
+      (h .pen) (h .memory)
     where
-      go : (b : Bool) → fits (wordsOf (t .records)) out ≡ b → _≡_ {A = ℕ} 0 (cond b 0 6) → k ≡ cond b (length (wordsOf (t .records))) 0 → said .pen ≡ cond b (t .pen) from →
+      go : (b : Bool) → fits (wordsOf (t .records)) out ≡ b → _≡_ {A = ℕ} 0 (cond b 0 6) →
+          k ≡ cond b (length (wordsOf (t .records))) 0 → said .pen ≡ cond b (t .pen) from →
           exit ≡ cond b (written (wordsOf (t .records)) out) out → DrewWords t out said k exit
       go true f n w p l = record { fit = f; pen = p; count = w; left = l }
       go false f n w p l = absurd (omega arith)
@@ -98,7 +102,8 @@ module _ {t : Stroke} {from : Pen} {out : List ℤ} {said : Drawn} {exit : List 
   pub drew-refused : said .answer ≡ NoRoom → DrewNothing t from out said exit
   drew-refused a = go (fits (wordsOf (t .records)) out) refl (ap callNumber (sym a) ∙ h .number) (h .pen) (h .memory)
     where
-      go : (b : Bool) → fits (wordsOf (t .records)) out ≡ b → _≡_ {A = ℕ} 6 (cond b 0 6) → said .pen ≡ cond b (t .pen) from → exit ≡ cond b (written (wordsOf (t .records)) out) out →
+      go : (b : Bool) → fits (wordsOf (t .records)) out ≡ b → _≡_ {A = ℕ} 6 (cond b 0 6) →
+          said .pen ≡ cond b (t .pen) from → exit ≡ cond b (written (wordsOf (t .records)) out) out →
           DrewNothing t from out said exit
       go true f n p l = absurd (omega arith)
       go false f n p l = record { fit = f; pen = p; left = l }

@@ -1,5 +1,5 @@
--- Any two outcomes that meet the contract of a public function are equal, over that contract as the toolchain reads it: the result and, of
--- `draw`, every word of what was lent. Assumes nothing.
+-- Any two outcomes that meet the contract of a public function are equal, over that contract as the
+-- toolchain reads it: the result and, of `draw`, every word of what was lent. Assumes nothing.
 use mathlib.Core.Path.{_≡_, sym, ap, _∙_}
 use borrow.Fn.Kinds.{endedOf}
 use borrow.Fn.World.{ArgsD, ResD}
@@ -23,27 +23,37 @@ use Rattle.hints.proofs.path.draw as draw
 use Rattle.hints.proofs.path.draw.Kinds as draw-kinds
 use Rattle.hints.proofs.path.draw.Reads as draw-reads
 
-pub new-unique : (κs : Lfts 0) (scale : Fixed) (r r′ : Hints) → new-reads.Post κs (scale, tt) r (scale, tt) → new-reads.Post κs (scale, tt) r′ (scale, tt) → r ≡ r′
+pub new-unique : (κs : Lfts 0) (scale : Fixed) (r r′ : Hints) → new-reads.Post κs (scale, tt) r (scale, tt) →
+    new-reads.Post κs (scale, tt) r′ (scale, tt) → r ≡ r′
 new-unique κs scale r r′ p q = p ∙ sym q
 
 module _ (κs : Lfts 0) (h r r′ : Hints) where
-  pub with-stem-unique : (min max : Fixed) → with-stem-reads.Post κs (h, (min, (max, tt))) r (h, (min, (max, tt))) → with-stem-reads.Post κs (h, (min, (max, tt))) r′ (h, (min, (max, tt))) → r ≡ r′
+  pub with-stem-unique : (min max : Fixed) → with-stem-reads.Post κs (h, (min, (max, tt))) r (h, (min, (max, tt))) →
+      with-stem-reads.Post κs (h, (min, (max, tt))) r′ (h, (min, (max, tt))) → r ≡ r′
   with-stem-unique min max p q = p ∙ sym q
 
-  pub with-mask-unique : (mask : HintMask) → with-mask-reads.Post κs (h, (mask, tt)) r (h, (mask, tt)) → with-mask-reads.Post κs (h, (mask, tt)) r′ (h, (mask, tt)) → r ≡ r′
+  pub with-mask-unique : (mask : HintMask) → with-mask-reads.Post κs (h, (mask, tt)) r (h, (mask, tt)) →
+      with-mask-reads.Post κs (h, (mask, tt)) r′ (h, (mask, tt)) → r ≡ r′
   with-mask-unique mask p q = p ∙ sym q
 
-  pub counter-unique : (st : HintState) (mask : HintMask) → counter-reads.Post κs (h, (st, (mask, tt))) r (h, (st, (mask, tt))) → counter-reads.Post κs (h, (st, (mask, tt))) r′ (h, (st, (mask, tt))) → r ≡ r′
+  pub counter-unique : (st : HintState) (mask : HintMask) →
+      counter-reads.Post κs (h, (st, (mask, tt))) r (h, (st, (mask, tt))) →
+      counter-reads.Post κs (h, (st, (mask, tt))) r′ (h, (st, (mask, tt))) → r ≡ r′
   counter-unique st mask p q = p ∙ sym q
 
-  pub ready-unique : (st : HintState) → ready-reads.Post κs (h, (st, tt)) r (h, (st, tt)) → ready-reads.Post κs (h, (st, tt)) r′ (h, (st, tt)) → r ≡ r′
+  pub ready-unique : (st : HintState) → ready-reads.Post κs (h, (st, tt)) r (h, (st, tt)) →
+      ready-reads.Post κs (h, (st, tt)) r′ (h, (st, tt)) → r ≡ r′
   ready-unique st p q = p ∙ sym q
 
 drawn : {d e : Drawn} → d .pen ≡ e .pen → d .answer ≡ e .answer → d ≡ e
-drawn {d} {e} p a = ap (λ (x : Pen). record { pen = x; answer = d .answer }) p ∙ ap (λ (x : CallAnswer). record { pen = e .pen; answer = x }) a
+drawn {d} {e} p a =
+    ap (λ (x : Pen). record { pen = x; answer = d .answer }) p ∙
+    ap (λ (x : CallAnswer). record { pen = e .pen; answer = x }) a
 
-module _ (κs : Lfts 1) (a : ArgsD draw.signature κs) (r r′ : ResD draw.signature κs) (x x′ : AtExit (endedOf 1 draw-kinds.ps draw-kinds.r) κs) where
-  pub draw-unique : draw-reads.Post κs a r x → draw-reads.Post κs a r′ x′ → (r ≡ r′) × (now (x .1 .1 .1 .1 .0) ≡ now (x′ .1 .1 .1 .1 .0))
+module _ (κs : Lfts 1) (a : ArgsD draw.signature κs) (r r′ : ResD draw.signature κs)
+    (x x′ : AtExit (endedOf 1 draw-kinds.ps draw-kinds.r) κs) where
+  pub draw-unique : draw-reads.Post κs a r x → draw-reads.Post κs a r′ x′ →
+      (r ≡ r′) × (now (x .1 .1 .1 .1 .0) ≡ now (x′ .1 .1 .1 .1 .0))
   draw-unique p q =
       let a = same-answer (r .answer) (r′ .answer) (p .number ∙ sym (q .number)) (p .words ∙ sym (q .words)) in
       (drawn (p .pen ∙ sym (q .pen)) a, p .memory ∙ sym (q .memory))

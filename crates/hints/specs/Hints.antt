@@ -71,7 +71,12 @@ countered st m h = withStems (withInitial st h) (builtFrom st m (withInitial st 
 
 abbrev pub builtIn : HintState → Hints → Hints
 builtIn st h =
-    record { stems = builtFrom st (h .mask) h .stems; mask = h .mask; initial = h .initial; map = builtFrom st (h .mask) h .map }
+    record {
+      stems = builtFrom st (h .mask) h .stems;
+      mask = h .mask;
+      initial = h .initial;
+      map = builtFrom st (h .mask) h .map;
+    }
 
 abbrev pub readyBy : Bool → HintState → Hints → Hints
 readyBy true st h = h

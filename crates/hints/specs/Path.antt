@@ -47,7 +47,8 @@ callWords NoRoom = 0
 abbrev pub callPlace : CallAnswer → ℕ
 callPlace a = 0
 
--- the outcome of a stroke: with room for its words they are written and the pen is the stroke's; else pen and words are as they came
+-- the outcome of a stroke: with room for its words they are written and the pen is the stroke's;
+-- else pen and words are as they came
 pub record Drew (t : Stroke) (from : Pen) (out : List ℤ) (said : Drawn) (left : List ℤ) : Type 0 where
   pub number : callNumber (said .answer) ≡ cond (fits (wordsOf (t .records)) out) 0 6
   pub words : callWords (said .answer) ≡ cond (fits (wordsOf (t .records)) out) (length (wordsOf (t .records))) 0

@@ -1,4 +1,5 @@
-// The hints of a drawing, and the strokes that its current map carries (01, "Stems and masks", "The map", "Path records").
+// The hints of a drawing, and the strokes that its current map carries (01, "Stems and masks", "The
+// map", "Path records").
 mod drawing;
 mod hints;
 mod path;

@@ -1,5 +1,5 @@
--- Any two outcomes that meet the contract of a public function are equal, over that contract as the toolchain reads it: the result and, of `put`, every word
--- of what was lent. Assumes nothing.
+-- Any two outcomes that meet the contract of a public function are equal, over that contract as the
+-- toolchain reads it: the result and, of `put`, every word of what was lent. Assumes nothing.
 use mathlib.Core.Path.{_≡_, sym, _∙_}
 use borrow.Fn.Kinds.{endedOf}
 use borrow.Fn.World.{ArgsD, ResD}
@@ -18,7 +18,8 @@ use Rattle.pen.proofs.strokes.Pen.line_to.Reads as line-to-reads
 use Rattle.pen.proofs.strokes.Pen.curve_to.Reads as curve-to-reads
 use Rattle.pen.proofs.strokes.Pen.finish.Reads as finish-reads
 
-module _ (κs : Lfts 1) (a : ArgsD put.signature κs) (r r′ : ResD put.signature κs) (x x′ : AtExit (endedOf 1 put-kinds.ps put-kinds.r) κs) where
+module _ (κs : Lfts 1) (a : ArgsD put.signature κs) (r r′ : ResD put.signature κs)
+    (x x′ : AtExit (endedOf 1 put-kinds.ps put-kinds.r) κs) where
   pub put-unique : put-reads.Post κs a r x → put-reads.Post κs a r′ x′ → (r ≡ r′) × (now (x .0) ≡ now (x′ .0))
   put-unique p q = (p .answer ∙ sym (q .answer), p .memory ∙ sym (q .memory))
 
@@ -30,12 +31,16 @@ module _ (κs : Lfts 0) (pen : Pen) (r r′ : Stroke) where
   finish-unique p q = p ∙ sym q
 
   module _ (at device : Point) where
-    pub move-to-unique : move-to-reads.Post κs (pen, (at, (device, tt))) r (pen, (at, (device, tt))) → move-to-reads.Post κs (pen, (at, (device, tt))) r′ (pen, (at, (device, tt))) → r ≡ r′
+    pub move-to-unique : move-to-reads.Post κs (pen, (at, (device, tt))) r (pen, (at, (device, tt))) →
+        move-to-reads.Post κs (pen, (at, (device, tt))) r′ (pen, (at, (device, tt))) → r ≡ r′
     move-to-unique p q = p ∙ sym q
 
-    pub line-to-unique : line-to-reads.Post κs (pen, (at, (device, tt))) r (pen, (at, (device, tt))) → line-to-reads.Post κs (pen, (at, (device, tt))) r′ (pen, (at, (device, tt))) → r ≡ r′
+    pub line-to-unique : line-to-reads.Post κs (pen, (at, (device, tt))) r (pen, (at, (device, tt))) →
+        line-to-reads.Post κs (pen, (at, (device, tt))) r′ (pen, (at, (device, tt))) → r ≡ r′
     line-to-unique p q = p ∙ sym q
 
   module _ (first second end : Point) where
-    pub curve-to-unique : curve-to-reads.Post κs (pen, (first, (second, (end, tt)))) r (pen, (first, (second, (end, tt)))) → curve-to-reads.Post κs (pen, (first, (second, (end, tt)))) r′ (pen, (first, (second, (end, tt)))) → r ≡ r′
+    pub curve-to-unique : curve-to-reads.Post κs (pen, (first, (second, (end, tt)))) r
+        (pen, (first, (second, (end, tt)))) →
+        curve-to-reads.Post κs (pen, (first, (second, (end, tt)))) r′ (pen, (first, (second, (end, tt)))) → r ≡ r′
     curve-to-unique p q = p ∙ sym q

@@ -1,4 +1,5 @@
--- Laws of the record words: how many there are, what pushing makes of them, and what is written. Assumes nothing.
+-- Laws of the record words: how many there are, what pushing makes of them, and what is written.
+-- Assumes nothing.
 use mathlib.Core.Path.{_≡_, sym, ap, _∙_}
 use mathlib.Core.Bool.{Bool, true, false, cond}
 use mathlib.Core.List.{List, _++_, _∷_, [], append-assoc, append-nil}
@@ -16,10 +17,12 @@ use Rattle.pen.specs.declared.strokes.Waiting.{Waiting}
 use Rattle.pen.specs.declared.strokes.Waiting.the-variants.{Line, Absent as NoLine}
 use Rattle.pen.specs.declared.strokes.Pen.{Pen}
 use Rattle.pen.specs.Records.{emitted, pushed, wordsOf}
-use Rattle.pen.specs.Strokes.{samePoint, pointWords, closeBy, waitingWords, closingWords, flushWords, moveOf, lineOf, curveOf, finishOf}
+use Rattle.pen.specs.Strokes.{samePoint, pointWords, closeBy, waitingWords, closingWords, flushWords, moveOf}
+use Rattle.pen.specs.Strokes.{lineOf, curveOf, finishOf}
 
 -- one store more at the start of what was lent
-pub one-more : (ws out : List ℤ) (i : ℕ) → i < length ws → i < length out → set (take i ws ++ drop i out) i (getD ws i (pos 0)) ≡ take (i + 1) ws ++ drop (i + 1) out
+pub one-more : (ws out : List ℤ) (i : ℕ) → i < length ws → i < length out →
+    set (take i ws ++ drop i out) i (getD ws i (pos 0)) ≡ take (i + 1) ws ++ drop (i + 1) out
 one-more ws out i h k =
     let l : length (take i ws) ≡ i = length-take-le i ws (omega arith) in
     rw (drop-cons out i (pos 0) k, add-one)
@@ -44,7 +47,8 @@ pub all-pushed : (ws vs : List ℤ) → length ws + length vs ≤ 10 → pushedA
 all-pushed ws [] h = ap emitted (sym (append-nil ws))
 all-pushed ws (v ∷ vs) h =
     let l : length (ws ++ v ∷ []) ≡ length ws + 1 = length-append ws (v ∷ []) in
-    ap (λ (q : Records). pushedAll q vs) (pushed-emitted ws v (omega arith)) ∙ all-pushed (ws ++ v ∷ []) vs (omega arith) ∙
+    ap (λ (q : Records). pushedAll q vs) (pushed-emitted ws v (omega arith)) ∙
+    all-pushed (ws ++ v ∷ []) vs (omega arith) ∙
     ap emitted (append-assoc ws (v ∷ []) vs)
 
 -- what is pushed onto records is pushed onto their equals

@@ -1,4 +1,5 @@
--- The strokes of a pen (01, "Path records"): what each makes of start point and waiting line, and the words that it writes.
+-- The strokes of a pen (01, "Path records"): what each makes of start point and waiting line, and
+-- the words that it writes.
 use mathlib.Core.Bool.{Bool, cond, _&&_}
 use mathlib.Core.List.{List, [], _∷_, _++_}
 use lib.IntN.{ℤ, pos}
@@ -22,7 +23,8 @@ samePoint p q = sameF (p .x) (q .x) && sameF (p .y) (q .y)
 abbrev pub pointWords : Point → List ℤ
 pointWords p = p .x .bits ∷ p .y .bits ∷ []
 
--- closing: with a start, the waiting line unless its character point is the start, then a close; without one, nothing
+-- closing: with a start, the waiting line unless its character point is the start, then a close;
+-- without one, nothing
 abbrev pub closeBy : Start → Waiting → List ℤ
 closeBy NoStart w = []
 closeBy (At from) NoLine = pos 4 ∷ []
@@ -51,7 +53,8 @@ unfoldable pub lineOf : Pen → Point → Point → Stroke
 lineOf pen at device = stroke (pen .start) (Line at device) (flushWords pen)
 
 unfoldable pub curveOf : Pen → Point → Point → Point → Stroke
-curveOf pen first second end = stroke (pen .start) NoLine (flushWords pen ++ (pos 3 ∷ pointWords first ++ pointWords second ++ pointWords end))
+curveOf pen first second end =
+    stroke (pen .start) NoLine (flushWords pen ++ (pos 3 ∷ pointWords first ++ pointWords second ++ pointWords end))
 
 -- finish closes first
 unfoldable pub finishOf : Pen → Stroke

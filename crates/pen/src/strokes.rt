@@ -3,7 +3,8 @@ use crate::records::Records;
 use fixed::Fixed;
 ghost use mathlib.Core.Path.{_≡_};
 ghost use Rattle.pen.specs.Records.{emitted};
-ghost use Rattle.pen.specs.Strokes.{samePoint, newPen, closingWords, flushWords, moveOf, lineOf, curveOf, finishOf};
+ghost use Rattle.pen.specs.Strokes.{samePoint, newPen, closingWords, flushWords, moveOf, lineOf, curveOf};
+ghost use Rattle.pen.specs.Strokes.{finishOf};
 
 // The kinds of records.
 const MOVE: i32 = 1;

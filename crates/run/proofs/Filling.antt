@@ -1,4 +1,5 @@
--- Laws of room: one command's words more at the next free words, and where a run ends. Assumes nothing.
+-- Laws of room: one command's words more at the next free words, and where a run ends. Assumes
+-- nothing.
 use mathlib.Core.Path.{_≡_, refl, sym, ap, _∙_}
 use mathlib.Core.Bool.{Bool, true, false}
 use mathlib.Core.List.{List, [], _∷_, _++_, append-assoc, append-nil}
@@ -23,13 +24,15 @@ back a xs ys =
     let e : drop (length xs - a) (drop a xs) ≡ [] = drop-of-length-le (drop a xs) h in
     rw (e, append-nil)
 
--- how a run stands: what the commands from here on make of the words from next on is what all commands make of all words
+-- how a run stands: what the commands from here on make of the words from next on is what all
+-- commands make of all words
 pub record Along (all : List Step) (out₀ : List ℤ) (rest : List Step) (next : ℕ) (out : List ℤ) : Type 0 where
   pub within : next ≤ length out
   pub same : length out ≡ length out₀
   pub said : fitted (length out₀) all .said ≡ fitted (length out - next) rest .said
   pub count : length (fitted (length out₀) all .words) ≡ next + length (fitted (length out - next) rest .words)
-  pub left : written (fitted (length out₀) all .words) out₀ ≡ take next out ++ written (fitted (length out - next) rest .words) (drop next out)
+  pub left : written (fitted (length out₀) all .words) out₀ ≡
+      take next out ++ written (fitted (length out - next) rest .words) (drop next out)
 
 -- before the first command
 pub begun : (all : List Step) (out : List ℤ) → Along all out all 0 out
@@ -39,12 +42,15 @@ begun all out =
       within = omega arith;
       same = refl;
       said = ap (λ (k : ℕ). fitted k all .said) (sym z);
-      count = ap (λ (k : ℕ). length (fitted k all .words)) (sym z) ∙ sym (zero-add (length (fitted (length out - 0) all .words)));
+      count =
+          ap (λ (k : ℕ). length (fitted k all .words)) (sym z) ∙
+          sym (zero-add (length (fitted (length out - 0) all .words)));
       left = ap (λ (k : ℕ). written (fitted k all .words) out) (sym z);
     }
 
 -- the same of equal commands
-pub following : {all : List Step} {out₀ : List ℤ} {rest rest′ : List Step} {next : ℕ} {out : List ℤ} → rest ≡ rest′ → Along all out₀ rest next out → Along all out₀ rest′ next out
+pub following : {all : List Step} {out₀ : List ℤ} {rest rest′ : List Step} {next : ℕ} {out : List ℤ} → rest ≡ rest′ →
+    Along all out₀ rest next out → Along all out₀ rest′ next out
 following e a = rw e at a
 
 -- ws at the next free words
@@ -74,10 +80,14 @@ module _ (next : ℕ) (ws out : List ℤ) (h : next ≤ length out) (f : length 
       omega (arith, front-length, length-drop next out, length-drop (length ws) (drop next out))
 
   placed-take : take (next + length ws) (placed next ws out) ≡ front
-  placed-take = ap (take (next + length ws)) split ∙ take-at front (drop (length ws) (drop next out)) (next + length ws) front-length
+  placed-take =
+      ap (take (next + length ws)) split ∙
+      take-at front (drop (length ws) (drop next out)) (next + length ws) front-length
 
   placed-drop : drop (next + length ws) (placed next ws out) ≡ drop (length ws) (drop next out)
-  placed-drop = ap (drop (next + length ws)) split ∙ drop-at front (drop (length ws) (drop next out)) (next + length ws) front-length
+  placed-drop =
+      ap (drop (next + length ws)) split ∙
+      drop-at front (drop (length ws) (drop next out)) (next + length ws) front-length
 
   -- more words behind those that were placed
   placed-both : (vs : List ℤ) → placed next (ws ++ vs) out ≡ placed (next + length ws) vs (placed next ws out)
@@ -93,15 +103,18 @@ pub placed-none : (next : ℕ) (out : List ℤ) → placed next [] out ≡ out
 unfolding written
 placed-none next out = take-append-drop next out
 
-module _ {all : List Step} {out₀ : List ℤ} {rest : List Step} {next : ℕ} {out : List ℤ} {t : Step} (a : Along all out₀ (t ∷ rest) next out) where
-  by-room : (b : Bool) → fits (t .words) (drop next out) ≡ b → fitted (length out - next) (t ∷ rest) ≡ fitBy b t (fitted (length out - next - length (t .words)) rest)
+module _ {all : List Step} {out₀ : List ℤ} {rest : List Step} {next : ℕ} {out : List ℤ} {t : Step}
+    (a : Along all out₀ (t ∷ rest) next out) where
+  by-room : (b : Bool) → fits (t .words) (drop next out) ≡ b →
+      fitted (length out - next) (t ∷ rest) ≡ fitBy b t (fitted (length out - next - length (t .words)) rest)
   unfolding fitted
   by-room b f =
       ap (λ (x : Bool). fitBy x t (fitted (length out - next - length (t .words)) rest))
       (ap (leb (length (t .words))) (sym (length-drop next out)) ∙ f)
 
   -- a command that fits writes its words
-  pub wrote : fits (t .words) (drop next out) ≡ true → Along all out₀ rest (next + length (t .words)) (placed next (t .words) out)
+  pub wrote : fits (t .words) (drop next out) ≡ true →
+      Along all out₀ rest (next + length (t .words)) (placed next (t .words) out)
   wrote f =
       let ws = t .words in
       let h = leb-true (length ws) (length (drop next out)) f in
@@ -117,7 +130,8 @@ module _ {all : List Step} {out₀ : List ℤ} {rest : List Step} {next : ℕ} {
             a .count ∙ ap (λ (x : Fitted). next + length (x .words)) e ∙ omega (arith, length-append ws (r .words)) ∙
             ap (λ (k : ℕ). next + length ws + length (fitted k rest .words)) (sym room);
         left =
-            a .left ∙ ap (λ (x : Fitted). placed next (x .words) out) e ∙ placed-both next ws out (a .within) h (r .words) ∙
+            a .left ∙ ap (λ (x : Fitted). placed next (x .words) out) e ∙
+            placed-both next ws out (a .within) h (r .words) ∙
             ap (λ (k : ℕ). placed (next + length ws) (fitted k rest .words) (placed next ws out)) (sym room);
       }
 
@@ -128,7 +142,9 @@ pub record Stopped (all : List Step) (out₀ : List ℤ) (answer : Answer) (next
   pub left : out ≡ written (fitted (length out₀) all .words) out₀
 
 -- a run ends where no further words fit
-stopped : {all : List Step} {out₀ : List ℤ} {rest : List Step} {next : ℕ} {out : List ℤ} (answer : Answer) → Along all out₀ rest next out → fitted (length out - next) rest ≡ record { said = answer; words = [] } → Stopped all out₀ answer next out
+stopped : {all : List Step} {out₀ : List ℤ} {rest : List Step} {next : ℕ} {out : List ℤ} (answer : Answer) →
+    Along all out₀ rest next out → fitted (length out - next) rest ≡ record { said = answer; words = [] } →
+    Stopped all out₀ answer next out
 stopped {next = next} {out = out} answer a e =
     record {
       said = sym (a .said ∙ ap (λ (x : Fitted). x .said) e);
@@ -137,10 +153,13 @@ stopped {next = next} {out = out} answer a e =
     }
 
 -- at a command that does not fit
-pub refused : {all : List Step} {out₀ : List ℤ} {rest : List Step} {next : ℕ} {out : List ℤ} {t : Step} → Along all out₀ (t ∷ rest) next out → fits (t .words) (drop next out) ≡ false → Stopped all out₀ (NoRoom (t .place)) next out
+pub refused : {all : List Step} {out₀ : List ℤ} {rest : List Step} {next : ℕ} {out : List ℤ} {t : Step} →
+    Along all out₀ (t ∷ rest) next out → fits (t .words) (drop next out) ≡ false →
+    Stopped all out₀ (NoRoom (t .place)) next out
 refused {t = t} a f = stopped (NoRoom (t .place)) a (by-room a false f)
 
 -- and after the last command
-pub done : {all : List Step} {out₀ : List ℤ} {next : ℕ} {out : List ℤ} → Along all out₀ [] next out → Stopped all out₀ Ok next out
+pub done : {all : List Step} {out₀ : List ℤ} {next : ℕ} {out : List ℤ} → Along all out₀ [] next out →
+    Stopped all out₀ Ok next out
 unfolding fitted
 done a = stopped Ok a refl

@@ -1,4 +1,5 @@
--- Laws of a turn of a script's run: what each kind of command makes of the drawing, the words and the commands that are left. Assumes nothing.
+-- Laws of a turn of a script's run: what each kind of command makes of the drawing, the words and
+-- the commands that are left. Assumes nothing.
 use mathlib.Core.Path.{_≡_, refl, sym, ap, _∙_}
 use mathlib.Core.Bool.{Bool, true, false}
 use mathlib.Core.List.{List, _∷_, _++_}
@@ -30,7 +31,8 @@ use Rattle.commands.specs.Commands.{CommandAt, readAt, nextAt, commandsFrom, co
 use Rattle.commands.specs.Faults.{hasBadMask, commandRows}
 use Rattle.commands.proofs.Laws.{first as first-command, none, from-start, faultless, mask-inside}
 use Rattle.run.specs.Room.{Step}
-use Rattle.run.specs.Run.{markCall, callOf, Asked, callsOf, stepsOf, maskEnd, ranOf, Ended, Runnable, wantsMap, isClose}
+use Rattle.run.specs.Run.{markCall, callOf, Asked, callsOf, stepsOf, maskEnd, ranOf, Ended, Runnable, wantsMap}
+use Rattle.run.specs.Run.{isClose}
 use Rattle.run.proofs.Filling.{begun, following, Stopped}
 use Rattle.run.proofs.Calls.{Standing, standing, marked, readied, drew, denied, finished}
 
@@ -44,7 +46,8 @@ end-inside bytes Clear e = omega arith
 end-inside bytes Close e = omega arith
 
 -- what writes nothing leaves the pen as it is
-pub mark-still : (st : HintState) (h : Hints) (pen : Pen) (s : List ℕ) (from : ℕ) (m : Marking) → strokeOf st h pen (markCall s from m) ≡ still pen
+pub mark-still : (st : HintState) (h : Hints) (pen : Pen) (s : List ℕ) (from : ℕ) (m : Marking) →
+    strokeOf st h pen (markCall s from m) ≡ still pen
 mark-still st h pen s from Bad = refl
 mark-still st h pen s from (Stem min max) = refl
 mark-still st h pen s from (Mask start len) = refl
@@ -53,7 +56,8 @@ mark-still st h pen s from Clear = refl
 mark-still st h pen s from Close = refl
 
 -- a close leaves the hints as they are
-pub close-idle : (st : HintState) (h : Hints) (s : List ℕ) (from : ℕ) (m : Marking) → isClose m ≡ true → hintsOf st h (markCall s from m) ≡ h
+pub close-idle : (st : HintState) (h : Hints) (s : List ℕ) (from : ℕ) (m : Marking) → isClose m ≡ true →
+    hintsOf st h (markCall s from m) ≡ h
 close-idle st h s from Bad e = refl
 close-idle st h s from (Stem min max) e = cc
 close-idle st h s from (Mask start len) e = cc
@@ -87,7 +91,9 @@ module _ (st : HintState) (s part : List ℕ) (first n from : ℕ) where
       record {
         stands =
             record {
-              along = following (ap (λ (l : List CommandAt). stepsOf st (newDrawing (st .scale)) (callsOf s from l)) e) (begun allSteps out);
+              along =
+                  following (ap (λ (l : List CommandAt). stepsOf st (newDrawing (st .scale)) (callsOf s from l)) e)
+                  (begun allSteps out);
             };
         bytes = r .bytes;
         inside = r .inside;
@@ -95,16 +101,26 @@ module _ (st : HintState) (s part : List ℕ) (first n from : ℕ) where
       }
 
   -- the call of the command at a word, and those behind it
-  calls-first : {at : ℕ} → at < n → {c : Command} → readAt (rawAt part) n at .command ≡ c → callsAt at ≡ record { place = first + at; call = callOf s from c } ∷ callsAt (nextAt (rawAt part) at)
+  calls-first : {at : ℕ} → at < n → {c : Command} → readAt (rawAt part) n at .command ≡ c →
+      callsAt at ≡ record { place = first + at; call = callOf s from c } ∷ callsAt (nextAt (rawAt part) at)
   unfolding callsOf
   calls-first {at} i e =
       ap (callsOf s from) (first-command first (rawAt part) n at i) ∙
       ap (λ (x : Command). record { place = first + at; call = callOf s from x } ∷ callsAt (nextAt (rawAt part) at)) e
 
-  module _ {out₀ : List ℤ} {h : Hints} {pen : Pen} {next at : ℕ} {out : List ℤ} (g : Going out₀ h pen next at out) (i : at < n) where
+  module _ {out₀ : List ℤ} {h : Hints} {pen : Pen} {next at : ℕ} {out : List ℤ} (g : Going out₀ h pen next at out)
+      (i : at < n) where
     -- behind the command at a word
-    behind : {k : Hints} {pen′ : Pen} {next′ : ℕ} {out′ : List ℤ} → Standing st allSteps out₀ (callsAt (nextAt (rawAt part) at)) k pen′ next′ out′ → Going out₀ k pen′ next′ (nextAt (rawAt part) at) out′
-    behind d = record { stands = d; bytes = g .bytes; inside = g .inside; fine = faultless first (rawAt part) n (g .bytes) at i (g .fine) .1 .1 }
+    behind : {k : Hints} {pen′ : Pen} {next′ : ℕ} {out′ : List ℤ} →
+        Standing st allSteps out₀ (callsAt (nextAt (rawAt part) at)) k pen′ next′ out′ →
+        Going out₀ k pen′ next′ (nextAt (rawAt part) at) out′
+    behind d =
+        record {
+          stands = d;
+          bytes = g .bytes;
+          inside = g .inside;
+          fine = faultless first (rawAt part) n (g .bytes) at i (g .fine) .1 .1;
+        }
 
     -- the mask that a command names lies in the script
     pub mask-there : {m : Marking} → readAt (rawAt part) n at .command ≡ Mark m → from + maskEnd m ≤ length s
@@ -113,11 +129,13 @@ module _ (st : HintState) (s part : List ℕ) (first n from : ℕ) where
         omega (arith, g .inside, end-inside (g .bytes) m (ap (hasBadMask (g .bytes)) (sym e) ∙ b))
 
     -- a command that writes nothing
-    pub turn-mark : {m : Marking} → readAt (rawAt part) n at .command ≡ Mark m → Going out₀ (hintsOf st h (markCall s from m)) pen next (nextAt (rawAt part) at) out
+    pub turn-mark : {m : Marking} → readAt (rawAt part) n at .command ≡ Mark m →
+        Going out₀ (hintsOf st h (markCall s from m)) pen next (nextAt (rawAt part) at) out
     turn-mark {m} e = behind (marked (standing (calls-first i e) (g .stands)) (mark-still st h pen s from m))
 
     -- a call that wants a map
-    pub turn-ready : {path : Path} → readAt (rawAt part) n at .command ≡ Draw path → hasPoint path ≡ true → Going out₀ (readyOf st h) pen next at out
+    pub turn-ready : {path : Path} → readAt (rawAt part) n at .command ≡ Draw path → hasPoint path ≡ true →
+        Going out₀ (readyOf st h) pen next at out
     turn-ready e w =
         record {
           stands = standing (sym (calls-first i e)) (readied (standing (calls-first i e) (g .stands)) w);
@@ -126,22 +144,31 @@ module _ (st : HintState) (s part : List ℕ) (first n from : ℕ) where
           fine = g .fine;
         }
 
-    module _ {path : Path} (e : readAt (rawAt part) n at .command ≡ Draw path) (w : wantsMap (h .map .«is_valid») path ≡ false) where
+    module _ {path : Path} (e : readAt (rawAt part) n at .command ≡ Draw path)
+        (w : wantsMap (h .map .«is_valid») path ≡ false) where
       -- a call that wrote its words
-      pub turn-drew : {said : Drawn} {k : ℕ} {exit : List ℤ} → DrewWords (strokeBy (h .map) (st .scale) pen path) (drop next out) said k exit → Going out₀ h (said .pen) (next + k) (nextAt (rawAt part) at) (take next out ++ exit)
+      pub turn-drew : {said : Drawn} {k : ℕ} {exit : List ℤ} →
+          DrewWords (strokeBy (h .map) (st .scale) pen path) (drop next out) said k exit →
+          Going out₀ h (said .pen) (next + k) (nextAt (rawAt part) at) (take next out ++ exit)
       turn-drew d = behind (drew (standing (calls-first i e) (g .stands)) w d)
 
       -- and one that did not
-      pub turn-refused : {said : Drawn} {exit : List ℤ} → DrewNothing (strokeBy (h .map) (st .scale) pen path) pen (drop next out) said exit → Stopped allSteps out₀ (NoRoom (first + at)) next out
+      pub turn-refused : {said : Drawn} {exit : List ℤ} →
+          DrewNothing (strokeBy (h .map) (st .scale) pen path) pen (drop next out) said exit →
+          Stopped allSteps out₀ (NoRoom (first + at)) next out
       turn-refused d = denied (standing (calls-first i e) (g .stands)) w d
 
   -- after the last command
-  pub turn-done : {out₀ : List ℤ} {h : Hints} {pen : Pen} {next at : ℕ} {out : List ℤ} → Going out₀ h pen next at out → n ≤ at → Stopped allSteps out₀ Ok next out
+  pub turn-done : {out₀ : List ℤ} {h : Hints} {pen : Pen} {next at : ℕ} {out : List ℤ} → Going out₀ h pen next at out →
+      n ≤ at → Stopped allSteps out₀ Ok next out
   unfolding callsOf
-  turn-done {at = at} g i = finished (standing (ap (callsOf s from) (none first (rawAt part) n (n - at) at i)) (g .stands))
+  turn-done {at = at} g i =
+      finished (standing (ap (callsOf s from) (none first (rawAt part) n (n - at) at i)) (g .stands))
 
   -- where it ends is what a run gives
-  pub ended : {out₀ : List ℤ} {answer : Answer} {next : ℕ} {out : List ℤ} → Stopped allSteps out₀ answer next out → Ended (ranOf st (callsOf s from (commandsOf first (rawAt part) n)) out₀) (record { answer = answer; words = next }) out
+  pub ended : {out₀ : List ℤ} {answer : Answer} {next : ℕ} {out : List ℤ} → Stopped allSteps out₀ answer next out →
+      Ended (ranOf st (callsOf s from (commandsOf first (rawAt part) n)) out₀)
+      (record { answer = answer; words = next }) out
   unfolding ranOf allSteps
   ended p = record { answer = says (p .said); words = p .count; memory = p .left }
 

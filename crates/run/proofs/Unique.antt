@@ -1,5 +1,5 @@
--- Any two outcomes that meet the contract of `run` are equal, over that contract as the toolchain reads it: the result and every
--- word of the output. Assumes nothing.
+-- Any two outcomes that meet the contract of `run` are equal, over that contract as the toolchain
+-- reads it: the result and every word of the output. Assumes nothing.
 use mathlib.Core.Path.{_≡_, sym, ap, _∙_}
 use Prim.Native.Nat.{ℕ}
 use borrow.Fn.Kinds.{endedOf}
@@ -15,8 +15,13 @@ use Rattle.run.proofs.running.run.Kinds as run-kinds
 use Rattle.run.proofs.running.run.Reads as run-reads
 
 ran : {a b : Ran} → a .answer ≡ b .answer → a .words ≡ b .words → a ≡ b
-ran {a} {b} e w = ap (λ (x : Answer). record { answer = x; words = a .words }) e ∙ ap (λ (k : ℕ). record { answer = b .answer; words = k }) w
+ran {a} {b} e w =
+    ap (λ (x : Answer). record { answer = x; words = a .words }) e ∙
+    ap (λ (k : ℕ). record { answer = b .answer; words = k }) w
 
-module _ (κs : Lfts 3) (a : ArgsD run.signature κs) (r r′ : ResD run.signature κs) (x x′ : AtExit (endedOf 3 run-kinds.ps run-kinds.r) κs) where
-  pub run-unique : run-reads.Post κs a r x → run-reads.Post κs a r′ x′ → (r ≡ r′) × (now (x .1 .1 .1 .1 .1 .1 .0) ≡ now (x′ .1 .1 .1 .1 .1 .1 .0))
-  run-unique p q = (ran (says-is (p .answer) ∙ sym (says-is (q .answer))) (p .words ∙ sym (q .words)), p .memory ∙ sym (q .memory))
+module _ (κs : Lfts 3) (a : ArgsD run.signature κs) (r r′ : ResD run.signature κs)
+    (x x′ : AtExit (endedOf 3 run-kinds.ps run-kinds.r) κs) where
+  pub run-unique : run-reads.Post κs a r x → run-reads.Post κs a r′ x′ →
+      (r ≡ r′) × (now (x .1 .1 .1 .1 .1 .1 .0) ≡ now (x′ .1 .1 .1 .1 .1 .1 .0))
+  run-unique p q =
+      (ran (says-is (p .answer) ∙ sym (says-is (q .answer))) (p .words ∙ sym (q .words)), p .memory ∙ sym (q .memory))

@@ -1,4 +1,5 @@
--- A run of calls over a new drawing (01, "The script"): the record words of each call, and those for which there is room. A script's commands are one list of calls.
+-- A run of calls over a new drawing (01, "The script"): the record words of each call, and those
+-- for which there is room. A script's commands are one list of calls.
 use mathlib.Core.Path.{_≡_}
 use mathlib.Core.Bool.{Bool, true, false}
 use mathlib.Core.List.{List, [], _∷_}
@@ -57,7 +58,8 @@ callsOf s from (c ∷ cs) = record { place = c .place; call = callOf s from (c .
 -- ---- the record words of each call
 unfoldable pub stepsOf : HintState → Drawing → List Asked → List Step
 stepsOf st d [] = []
-stepsOf st d (c ∷ cs) = record { place = c .place; words = wordsFor st d (c .call) } ∷ stepsOf st (nextOf st d (c .call)) cs
+stepsOf st d (c ∷ cs) =
+    record { place = c .place; words = wordsFor st d (c .call) } ∷ stepsOf st (nextOf st d (c .call)) cs
 
 -- ---- the run
 -- what a run answers, and the output that it leaves

@@ -50,7 +50,8 @@ fn is_close(marking: Marking) -> bool
     }
 }
 
-// Runs the `n` command words of a part that starts at word `first` of the script, whose mask bytes start at byte `from`.
+// Runs the `n` command words of a part that starts at word `first` of the script, whose mask bytes
+// start at byte `from`.
 pub fn run(
     script: &[u8],
     part: &[u8],
@@ -61,7 +62,9 @@ pub fn run(
     out: &mut [i32],
 ) -> Ran
     requires { ⌜ Runnable (now script) (now part) first n from ⌝ }
-    ensures { λ r. ⌜ Ended (ranOf state (callsOf (now (script .entry)) from (commandsOf first (rawAt (now (part .entry))) n)) (now (out .entry))) r (now (out .exit)) ⌝ }
+    ensures { λ r. ⌜ Ended (ranOf state
+        (callsOf (now (script .entry)) from (commandsOf first (rawAt (now (part .entry))) n)) (now (out .entry))) r
+        (now (out .exit)) ⌝ }
 {
     let mut hints = Hints::new(state.scale);
     let mut pen = Pen::new();

@@ -1,4 +1,5 @@
--- Laws of the count of records: as many turns as there are words are enough, and one record more. Assumes nothing.
+-- Laws of the count of records: as many turns as there are words are enough, and one record more.
+-- Assumes nothing.
 use mathlib.Core.Path.{_≡_, refl, sym, ap, _∙_}
 use mathlib.Core.Bool.{Bool, true, false, _||_}
 use mathlib.Core.List.{List, [], _∷_}
@@ -14,7 +15,8 @@ use Rattle.script.specs.Count.{sizeBy, sizeOf, recordsBy, recordsIn}
 -- a word that starts no move, line or curve is a record by itself
 pub other-size : (k : ℤ) → (k ≡ pos 1 → ⊥) → (k ≡ pos 2 → ⊥) → (k ≡ pos 3 → ⊥) → sizeOf k ≡ 1
 unfolding sizeOf
-other-size (pos n) a b c = rw (ne-eqb n 1 (λ e. a (ap pos e)), ne-eqb n 2 (λ e. b (ap pos e)), ne-eqb n 3 (λ e. c (ap pos e)))
+other-size (pos n) a b c =
+    rw (ne-eqb n 1 (λ e. a (ap pos e)), ne-eqb n 2 (λ e. b (ap pos e)), ne-eqb n 3 (λ e. c (ap pos e)))
 other-size (negsuc n) a b c = refl
 
 -- a record takes from 1 to 7 words
@@ -52,16 +54,19 @@ enough (suc f) (suc g) (w ∷ ws) h k =
 
 module _ (ws : List ℤ) (at : ℕ) where
   -- one record more
-  pub count-step : at < length ws → recordsIn (drop at ws) ≡ suc (recordsIn (drop (at + sizeOf (getD ws at (pos 0))) ws))
+  pub count-step : at < length ws →
+      recordsIn (drop at ws) ≡ suc (recordsIn (drop (at + sizeOf (getD ws at (pos 0))) ws))
   unfolding recordsIn recordsBy
   count-step h =
       let w = getD ws at (pos 0) in
       let e = drop-cons ws at (pos 0) h in
       let t = drop (suc at) ws in
       let n : suc at + (sizeOf w - 1) ≡ at + sizeOf w = omega (arith, sizes w) in
-      let d : drop (sizeOf w - 1) t ≡ drop (at + sizeOf w) ws = drop-drop (sizeOf w - 1) (suc at) ws ∙ ap (λ (k : ℕ). drop k ws) n in
+      let d : drop (sizeOf w - 1) t ≡ drop (at + sizeOf w) ws = drop-drop (sizeOf w - 1) (suc at) ws ∙
+      ap (λ (k : ℕ). drop k ws) n in
       ap recordsIn e ∙
-      ap suc (enough (length t) (length (drop (sizeOf w - 1) t)) (drop (sizeOf w - 1) t) (omega (arith, length-drop (sizeOf w - 1) t)) (omega arith) ∙ ap recordsIn d)
+      ap suc (enough (length t) (length (drop (sizeOf w - 1) t)) (drop (sizeOf w - 1) t)
+      (omega (arith, length-drop (sizeOf w - 1) t)) (omega arith) ∙ ap recordsIn d)
 
   -- and none past the end
   pub count-end : length ws ≤ at → recordsIn (drop at ws) ≡ 0

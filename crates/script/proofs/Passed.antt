@@ -31,7 +31,8 @@ pub record Passed (s : List ℕ) : Type 0 where
 pub passed : (s : List ℕ) → firstOf (checkRows s) ≡ Ok → Passed s
 unfolding checkRows
 passed s e =
-    let h = both-ok (headerRows s) (paramRows (rawAt s) ++ commandRows (rawAt s 7) (commandsIn s)) (header-refusing s) e in
+    let h = both-ok (headerRows s) (paramRows (rawAt s) ++ commandRows (rawAt s 7) (commandsIn s)) (header-refusing s) e
+    in
     let p = both-ok (paramRows (rawAt s)) (commandRows (rawAt s 7) (commandsIn s)) (params-refusing s) (h .1) in
     let f = fine s (h .0) in
     record { header = h .0; params = p .0; commands = p .1; fine = f; whole = whole s f (p .0) }
@@ -60,6 +61,9 @@ runnable s p =
     }
 
 -- and their run is that of the script
-pub ran : (s : List ℕ) (out : List ℤ) → ranOf (zonesOf s) (callsIn s) out ≡ endingOf (fitted (length out) (stepsIn s)) out
+pub ran : (s : List ℕ) (out : List ℤ) →
+    ranOf (zonesOf s) (callsIn s) out ≡ endingOf (fitted (length out) (stepsIn s)) out
 unfolding ranOf stepsIn
-ran s out = ap (λ (x : Fixed). endingOf (fitted (length out) (stepsOf (zonesOf s) (newDrawing x) (callsIn s))) out) (zones-scale s)
+ran s out =
+    ap (λ (x : Fixed). endingOf (fitted (length out) (stepsOf (zonesOf s) (newDrawing x) (callsIn s))) out)
+    (zones-scale s)

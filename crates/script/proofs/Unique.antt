@@ -1,5 +1,6 @@
--- Any two outcomes that meet the contract of `count_records` or of `run_script` are equal, over that contract as the toolchain
--- reads it: the count, and of the latter the answer and every word of the output. Assumes nothing.
+-- Any two outcomes that meet the contract of `count_records` or of `run_script` are equal, over
+-- that contract as the toolchain reads it: the count, and of the latter the answer and every word
+-- of the output. Assumes nothing.
 use mathlib.Core.Path.{_≡_, sym, _∙_}
 use borrow.Fn.Kinds.{endedOf}
 use borrow.Fn.World.{ArgsD, ResD}
@@ -14,10 +15,13 @@ use Rattle.script.proofs.whole.run_script as run-script
 use Rattle.script.proofs.whole.run_script.Kinds as run-script-kinds
 use Rattle.script.proofs.whole.run_script.Reads as run-script-reads
 
-module _ (κs : Lfts 1) (a : ArgsD count-records.signature κs) (r r′ : ResD count-records.signature κs) (x x′ : AtExit (endedOf 1 count-records-kinds.ps count-records-kinds.r) κs) where
+module _ (κs : Lfts 1) (a : ArgsD count-records.signature κs) (r r′ : ResD count-records.signature κs)
+    (x x′ : AtExit (endedOf 1 count-records-kinds.ps count-records-kinds.r) κs) where
   pub count-records-unique : count-records-reads.Post κs a r x → count-records-reads.Post κs a r′ x′ → r ≡ r′
   count-records-unique p q = p ∙ sym q
 
-module _ (κs : Lfts 2) (a : ArgsD run-script.signature κs) (r r′ : ResD run-script.signature κs) (x x′ : AtExit (endedOf 2 run-script-kinds.ps run-script-kinds.r) κs) where
-  pub run-script-unique : run-script-reads.Post κs a r x → run-script-reads.Post κs a r′ x′ → (r ≡ r′) × (now (x .1 .0) ≡ now (x′ .1 .0))
+module _ (κs : Lfts 2) (a : ArgsD run-script.signature κs) (r r′ : ResD run-script.signature κs)
+    (x x′ : AtExit (endedOf 2 run-script-kinds.ps run-script-kinds.r) κs) where
+  pub run-script-unique : run-script-reads.Post κs a r x → run-script-reads.Post κs a r′ x′ →
+      (r ≡ r′) × (now (x .1 .0) ≡ now (x′ .1 .0))
   run-script-unique p q = (says-is (p .answer) ∙ sym (says-is (q .answer)), p .memory ∙ sym (q .memory))

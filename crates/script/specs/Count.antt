@@ -1,4 +1,5 @@
--- How many records there are in some words (01, "Path records"): 1 move x y; 2 line x y; 3 curve and six; 4 close; 5 finish.
+-- How many records there are in some words (01, "Path records"): 1 move x y; 2 line x y; 3 curve
+-- and six; 4 close; 5 finish.
 use mathlib.Core.Bool.{Bool, true, false, _||_}
 use mathlib.Core.List.{List, [], _∷_}
 use Prim.Native.Nat.{ℕ, zero, suc, _-_}

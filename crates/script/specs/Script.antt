@@ -1,4 +1,5 @@
--- A whole script (01, "The script"): all tests in 01's order, then the run, and what is left in every output word.
+-- A whole script (01, "The script"): all tests in 01's order, then the run, and what is left in
+-- every output word.
 use mathlib.Core.Path.{_≡_}
 use mathlib.Core.Bool.{Bool, true, false}
 use mathlib.Core.List.{List, _∷_, _++_}
@@ -55,7 +56,8 @@ pub record Result : Type 0 where
   pub answer : Answer
   pub left : List ℤ
 
--- NO_ROOM in a run keeps earlier commands' records from word 4, and every other word stands; on OK words past the result stand as lent
+-- NO_ROOM in a run keeps earlier commands' records from word 4, and every other word stands; on OK
+-- words past the result stand as lent
 abbrev pub leftBy : Bool → List ℤ → List ℤ → List ℤ
 leftBy true ws out = take 4 out ++ written ws (drop 4 out)
 leftBy false ws out = written (resultWords ws) out

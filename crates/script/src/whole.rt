@@ -32,7 +32,8 @@ fn zones_of(script: &[u8]) -> HintState
 // The run of such a script, into the words behind the result's header.
 fn run_commands(script: &[u8], out: &mut [i32]) -> Ran
     requires { ⌜ firstOf (checkRows (now script)) ≡ Ok ⌝ }
-    ensures { λ r. ⌜ Ended (endingOf (fitted (length (now (out .entry))) (stepsIn (now (script .entry)))) (now (out .entry))) r (now (out .exit)) ⌝ }
+    ensures { λ r. ⌜ Ended (endingOf (fitted (length (now (out .entry))) (stepsIn (now (script .entry))))
+        (now (out .entry))) r (now (out .exit)) ⌝ }
 {
     let first = natural(script, layout::COMMANDS_START);
     let count = natural(script, layout::COMMANDS_COUNT);

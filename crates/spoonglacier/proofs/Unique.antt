@@ -1,5 +1,5 @@
--- Any two outcomes that meet the contract of the exported run are equal, over that contract as the toolchain reads it: number, place and every word of
--- the output. Assumes nothing.
+-- Any two outcomes that meet the contract of the exported run are equal, over that contract as the
+-- toolchain reads it: number, place and every word of the output. Assumes nothing.
 use mathlib.Core.Path.{_≡_, sym, _∙_}
 use borrow.Fn.Kinds.{endedOf}
 use borrow.Fn.World.{ArgsD, ResD}
@@ -10,6 +10,8 @@ use Rattle.spoonglacier.proofs.spoonglacier_run as run
 use Rattle.spoonglacier.proofs.spoonglacier_run.Kinds as run-kinds
 use Rattle.spoonglacier.proofs.spoonglacier_run.Reads as run-reads
 
-module _ (κs : Lfts 3) (a : ArgsD run.signature κs) (r r′ : ResD run.signature κs) (x x′ : AtExit (endedOf 3 run-kinds.ps run-kinds.r) κs) where
-  pub run-unique : run-reads.Post κs a r x → run-reads.Post κs a r′ x′ → (r ≡ r′) × ((now (x .1 .0) ≡ now (x′ .1 .0)) × (now (x .1 .1 .0) ≡ now (x′ .1 .1 .0)))
+module _ (κs : Lfts 3) (a : ArgsD run.signature κs) (r r′ : ResD run.signature κs)
+    (x x′ : AtExit (endedOf 3 run-kinds.ps run-kinds.r) κs) where
+  pub run-unique : run-reads.Post κs a r x → run-reads.Post κs a r′ x′ →
+      (r ≡ r′) × ((now (x .1 .0) ≡ now (x′ .1 .0)) × (now (x .1 .1 .0) ≡ now (x′ .1 .1 .0)))
   run-unique p q = (p .number ∙ sym (q .number), (p .memory ∙ sym (q .memory), p .place ∙ sym (q .place)))

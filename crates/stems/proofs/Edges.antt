@@ -1,4 +1,5 @@
--- A stem's two edges: the number that both have of the stem, and that one is always there. Assumes nothing.
+-- A stem's two edges: the number that both have of the stem, and that one is always there. Assumes
+-- nothing.
 use mathlib.Core.Path.{_≡_, refl, sym, ap, _∙_}
 use mathlib.Core.Bool.{Bool, true, false, _&&_}
 use Prim.Native.Nat.{ℕ}

@@ -1,4 +1,5 @@
--- Laws of masks: the mask of all stems, a stem cleared, and when two masks are the same. Assumes nothing.
+-- Laws of masks: the mask of all stems, a stem cleared, and when two masks are the same. Assumes
+-- nothing.
 use mathlib.Core.Path.{_≡_, refl, sym, ap}
 use mathlib.Core.Bool.{Bool, true, false, cond, _&&_, true≢false}
 use mathlib.Core.List.{List, [], _∷_}
@@ -93,22 +94,31 @@ off : (m : HintMask) (i : ℕ) (t : Bool) → isActive m i ≡ t → isActive (c
 unfolding isActive
 off m i false e = e
 off m i true e =
-    rw (getD-set-same (m .bytes) (i / 8) (byteOf m i - weight i) 0 (active-inside m i e), own-bit (byteOf m i) (7 - i % 8) (eqb-true _ _ e))
+    rw (
+      getD-set-same (m .bytes) (i / 8) (byteOf m i - weight i) 0 (active-inside m i e),
+      own-bit (byteOf m i) (7 - i % 8) (eqb-true _ _ e),
+    )
 
 -- A cleared stem is not active.
 pub clear-off : (m : HintMask) (i : ℕ) → isActive (cleared m i) i ≡ false
 unfolding cleared
 clear-off m i = off m i (isActive m i) refl
 
-kept : (m : HintMask) (i j : ℕ) → (i ≡ j → ⊥) → isActive m i ≡ true → (t : Bool) → eqb (j / 8) (i / 8) ≡ t → isActive (without m i) j ≡ isActive m j
+kept : (m : HintMask) (i j : ℕ) → (i ≡ j → ⊥) → isActive m i ≡ true → (t : Bool) → eqb (j / 8) (i / 8) ≡ t →
+    isActive (without m i) j ≡ isActive m j
 unfolding isActive
 kept m i j n e true q =
     let p = eqb-true (j / 8) (i / 8) q in
     let differ : 7 - i % 8 ≡ 7 - j % 8 → ⊥ = λ r. n (omega arith) in
-    rw (p, getD-set-same (m .bytes) (i / 8) (byteOf m i - weight i) 0 (active-inside m i e), other-bit (byteOf m i) (7 - i % 8) (7 - j % 8) differ (eqb-true _ _ e))
+    rw (
+      p,
+      getD-set-same (m .bytes) (i / 8) (byteOf m i - weight i) 0 (active-inside m i e),
+      other-bit (byteOf m i) (7 - i % 8) (7 - j % 8) differ (eqb-true _ _ e),
+    )
 kept m i j n e false q = rw (getD-set-other (m .bytes) (i / 8) (j / 8) (byteOf m i - weight i) 0 (eqb-false _ _ q))
 
-keeps : (m : HintMask) (i j : ℕ) → (i ≡ j → ⊥) → (t : Bool) → isActive m i ≡ t → isActive (cond t (without m i) m) j ≡ isActive m j
+keeps : (m : HintMask) (i j : ℕ) → (i ≡ j → ⊥) → (t : Bool) → isActive m i ≡ t →
+    isActive (cond t (without m i) m) j ≡ isActive m j
 keeps m i j n false e = refl
 keeps m i j n true e = kept m i j n e (eqb (j / 8) (i / 8)) refl
 

@@ -1,4 +1,5 @@
--- Any two outcomes that meet the contract of a public function are equal, over that contract as the toolchain reads it. Assumes nothing.
+-- Any two outcomes that meet the contract of a public function are equal, over that contract as the
+-- toolchain reads it. Assumes nothing.
 use mathlib.Core.Path.{_≡_, sym, _∙_}
 use mathlib.Core.Bool.{Bool}
 use Prim.Native.Nat.{ℕ}
@@ -34,14 +35,18 @@ module _ (κs : Lfts 0) (r r′ : Hint) where
   pub none-unique : none-reads.Post κs tt r tt → none-reads.Post κs tt r′ tt → r ≡ r′
   none-unique p q = p ∙ sym q
 
-  pub setup-unique : (st : StemHint) (i : ℕ) (s : Fixed) (b : Side) → setup-reads.Post κs (st, (i, (s, (b, tt)))) r (st, (i, (s, (b, tt)))) → setup-reads.Post κs (st, (i, (s, (b, tt)))) r′ (st, (i, (s, (b, tt)))) → r ≡ r′
+  pub setup-unique : (st : StemHint) (i : ℕ) (s : Fixed) (b : Side) →
+      setup-reads.Post κs (st, (i, (s, (b, tt)))) r (st, (i, (s, (b, tt)))) →
+      setup-reads.Post κs (st, (i, (s, (b, tt)))) r′ (st, (i, (s, (b, tt)))) → r ≡ r′
   setup-unique st i s b p q = p ∙ sym q
 
   module _ (e : Hint) (h : Fixed) where
-    pub at-device-unique : at-device-reads.Post κs (e, (h, tt)) r (e, (h, tt)) → at-device-reads.Post κs (e, (h, tt)) r′ (e, (h, tt)) → r ≡ r′
+    pub at-device-unique : at-device-reads.Post κs (e, (h, tt)) r (e, (h, tt)) →
+        at-device-reads.Post κs (e, (h, tt)) r′ (e, (h, tt)) → r ≡ r′
     at-device-unique p q = p ∙ sym q
 
-    pub locked-at-unique : locked-at-reads.Post κs (e, (h, tt)) r (e, (h, tt)) → locked-at-reads.Post κs (e, (h, tt)) r′ (e, (h, tt)) → r ≡ r′
+    pub locked-at-unique : locked-at-reads.Post κs (e, (h, tt)) r (e, (h, tt)) →
+        locked-at-reads.Post κs (e, (h, tt)) r′ (e, (h, tt)) → r ≡ r′
     locked-at-unique p q = p ∙ sym q
 
 module _ (κs : Lfts 0) (e : Hint) (r r′ : Bool) where
@@ -57,29 +62,35 @@ module _ (κs : Lfts 0) (e : Hint) (r r′ : Bool) where
   pub is-pair-unique : is-pair-reads.Post κs (e, tt) r (e, tt) → is-pair-reads.Post κs (e, tt) r′ (e, tt) → r ≡ r′
   is-pair-unique p q = p ∙ sym q
 
-  pub is-pair-top-unique : is-pair-top-reads.Post κs (e, tt) r (e, tt) → is-pair-top-reads.Post κs (e, tt) r′ (e, tt) → r ≡ r′
+  pub is-pair-top-unique : is-pair-top-reads.Post κs (e, tt) r (e, tt) → is-pair-top-reads.Post κs (e, tt) r′ (e, tt) →
+      r ≡ r′
   is-pair-top-unique p q = p ∙ sym q
 
   pub is-locked-unique : is-locked-reads.Post κs (e, tt) r (e, tt) → is-locked-reads.Post κs (e, tt) r′ (e, tt) → r ≡ r′
   is-locked-unique p q = p ∙ sym q
 
-  pub is-synthetic-unique : is-synthetic-reads.Post κs (e, tt) r (e, tt) → is-synthetic-reads.Post κs (e, tt) r′ (e, tt) → r ≡ r′
+  pub is-synthetic-unique : is-synthetic-reads.Post κs (e, tt) r (e, tt) →
+      is-synthetic-reads.Post κs (e, tt) r′ (e, tt) → r ≡ r′
   is-synthetic-unique p q = p ∙ sym q
 
 module _ (κs : Lfts 0) (r r′ : HintMask) where
   pub all-unique : all-reads.Post κs tt r tt → all-reads.Post κs tt r′ tt → r ≡ r′
   all-unique p q = p ∙ sym q
 
-  pub clear-unique : (m : HintMask) (i : ℕ) → clear-reads.Post κs (m, (i, tt)) r (m, (i, tt)) → clear-reads.Post κs (m, (i, tt)) r′ (m, (i, tt)) → r ≡ r′
+  pub clear-unique : (m : HintMask) (i : ℕ) → clear-reads.Post κs (m, (i, tt)) r (m, (i, tt)) →
+      clear-reads.Post κs (m, (i, tt)) r′ (m, (i, tt)) → r ≡ r′
   clear-unique m i p q = p ∙ sym q
 
 module _ (κs : Lfts 0) (m : HintMask) (r r′ : Bool) where
-  pub get-unique : (i : ℕ) → get-reads.Post κs (m, (i, tt)) r (m, (i, tt)) → get-reads.Post κs (m, (i, tt)) r′ (m, (i, tt)) → r ≡ r′
+  pub get-unique : (i : ℕ) → get-reads.Post κs (m, (i, tt)) r (m, (i, tt)) →
+      get-reads.Post κs (m, (i, tt)) r′ (m, (i, tt)) → r ≡ r′
   get-unique i p q = p ∙ sym q
 
-  pub same-unique : (n : HintMask) → same-reads.Post κs (m, (n, tt)) r (m, (n, tt)) → same-reads.Post κs (m, (n, tt)) r′ (m, (n, tt)) → r ≡ r′
+  pub same-unique : (n : HintMask) → same-reads.Post κs (m, (n, tt)) r (m, (n, tt)) →
+      same-reads.Post κs (m, (n, tt)) r′ (m, (n, tt)) → r ≡ r′
   same-unique n p q = p ∙ sym q
 
-module _ (κs : Lfts 1) (a : ArgsD new.signature κs) (r r′ : ResD new.signature κs) (x x′ : AtExit (endedOf 1 new-kinds.ps new-kinds.r) κs) where
+module _ (κs : Lfts 1) (a : ArgsD new.signature κs) (r r′ : ResD new.signature κs)
+    (x x′ : AtExit (endedOf 1 new-kinds.ps new-kinds.r) κs) where
   pub new-unique : new-reads.Post κs a r x → new-reads.Post κs a r′ x′ → r ≡ r′
   new-unique p q = p ∙ sym q

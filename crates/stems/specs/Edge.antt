@@ -123,7 +123,8 @@ lockedAt e d = withDevice true e d
 abbrev pub width : StemHint → Fixed
 width s = subF (s .max) (s .min)
 
--- a width of −21.0 is a bottom ghost at max, −20.0 a top ghost at min, any other negative width a pair with its ends swapped
+-- a width of −21.0 is a bottom ghost at max, −20.0 a top ghost at min, any other negative width a
+-- pair with its ends swapped
 unfoldable pub shapeOf : StemHint → Shape
 shapeOf s =
     cond (sameF (width s) (whole (negℤ (pos 21)))) (BottomGhost (s .max))

@@ -21,7 +21,8 @@ allActive = ofBytes (replicate maskSize 255)
 unfoldable pub maskOf : List ℕ → HintMask
 maskOf bs = cond (ltb maskSize (length bs)) allActive (ofBytes (bs ++ replicate (maskSize - length bs) 0))
 
--- the byte that holds a stem's bit, and the bit's weight there: stem 0 has the most significant of the first byte
+-- the byte that holds a stem's bit, and the bit's weight there: stem 0 has the most significant of
+-- the first byte
 abbrev pub byteOf : HintMask → ℕ → ℕ
 byteOf m i = getD (m .bytes) (i / 8) 0
 

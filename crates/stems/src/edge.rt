@@ -1,12 +1,14 @@
 // Stems, and a stem's edges.
 use fixed::Fixed;
 ghost use mathlib.Core.Path.{_≡_};
-ghost use Rattle.stems.specs.Edge.{noHint, hintAt, isValid, isBottom, isTop, isPair, isPairTop, atDevice, lockedAt, shapeOf, edgeOf, setupOf};
+ghost use Rattle.stems.specs.Edge.{noHint, hintAt, isValid, isBottom, isTop, isPair, isPairTop, atDevice};
+ghost use Rattle.stems.specs.Edge.{lockedAt, shapeOf, edgeOf, setupOf};
 
 // The most stems of a glyph; there is room for as many edges in a map.
 pub const MAX_HINTS: usize = 96;
 
-// The number of the last of them, which is also the least length of a map that has no room for a pair.
+// The number of the last of them, which is also the least length of a map that has no room for a
+// pair.
 pub const LAST_HINT: usize = 95;
 
 pub struct StemHint {
@@ -55,8 +57,8 @@ pub enum Shape {
     Pair(Fixed, Fixed),
 }
 
-// The widths by which a font declares a ghost, −21.0 and −20.0: one edge that is to be aligned by itself, as the top and the bottom
-// of a sans-serif I, and no stem between two.
+// The widths by which a font declares a ghost, −21.0 and −20.0: one edge that is to be aligned by
+// itself, as the top and the bottom of a sans-serif I, and no stem between two.
 const GHOST_BOTTOM_WIDTH: Fixed = Fixed { bits: -0x15_0000 };
 
 const GHOST_TOP_WIDTH: Fixed = Fixed { bits: -0x14_0000 };
@@ -83,7 +85,8 @@ impl StemHint {
 }
 
 impl Shape {
-    // From `Hint::setup`: the bottom edge or the top edge, whether or not the stem is used. A ghost has only its own.
+    // From `Hint::setup`: the bottom edge or the top edge, whether or not the stem is used. A ghost
+    // has only its own.
     fn edge(self, side: Side, index: u8, scale: Fixed) -> Hint
         ensures { λ r. ⌜ r ≡ edgeOf self side index scale ⌝ }
     {
@@ -135,7 +138,8 @@ impl Hint {
         }
     }
 
-    // Ports `Hint::setup`: a stem's bottom or top edge, locked at its saved height once the stem is used.
+    // Ports `Hint::setup`: a stem's bottom or top edge, locked at its saved height once the stem is
+    // used.
     pub fn setup(stem: StemHint, index: u8, scale: Fixed, side: Side) -> Hint
         ensures { λ r. ⌜ r ≡ setupOf stem index scale side ⌝ }
     {

@@ -46,7 +46,8 @@ fn curved(state: HintState, drawing: Drawing, row: &[i32], at: usize, out: &mut 
     curve_to(state, drawing, first, second, point(row, at + 4), out)
 }
 
-// A call that writes none: 1 stem, 2 hint mask, 3 counter mask, 4 clear, 8 close. Operands start at `at`.
+// A call that writes none: 1 stem, 2 hint mask, 3 counter mask, 4 clear, 8 close. Operands start at
+// `at`.
 pub(crate) fn hinted(
     state: HintState,
     drawing: Drawing,

@@ -14,8 +14,8 @@ pub(crate) struct Turn {
     pub agrees: bool,
 }
 
-// A row: a scale and parameters, the number of opening's answer, and the calls. No row has more than 400
-// numbers.
+// A row: a scale and parameters, the number of opening's answer, and the calls. No row has more
+// than 400 numbers.
 pub(crate) fn row_agrees(row: &[i32]) -> bool {
     if 400 < row.len() {
         return false;
@@ -57,8 +57,8 @@ fn call_at(state: HintState, drawing: Drawing, row: &[i32], at: usize) -> Turn
     }
 }
 
-// A call that writes records, with what is expected from `answer` on: the room, the number of its answer, the
-// count of words and the words.
+// A call that writes records, with what is expected from `answer` on: the room, the number of its
+// answer, the count of words and the words.
 fn drawn_at(state: HintState, drawing: Drawing, row: &[i32], at: usize, answer: usize) -> Turn
     requires { ⌜ (at ≤ 400) × ((at < answer) × (answer ≤ at + 15)) ⌝ }
     ensures { λ r. ⌜ (at < r .next) × (r .next ≤ at + 40) ⌝ }

@@ -1,8 +1,8 @@
 // The buffer of which calls are lent a part.
 ghost use Prim.Native.Nat.{_≤_, _<_};
 
-// What stands in the buffer before a call. No record has such words: they are no kinds of records, and
-// their low 10 bits are not clear.
+// What stands in the buffer before a call. No record has such words: they are no kinds of records,
+// and their low 10 bits are not clear.
 pub(crate) const FILLED: [i32; 20] = [
     1701,
     1702,
@@ -26,8 +26,8 @@ pub(crate) const FILLED: [i32; 20] = [
     -10,
 ];
 
-// From `at` on: a count and so many words, which stand in the buffer from place 3 on. Every other word is as
-// it was.
+// From `at` on: a count and so many words, which stand in the buffer from place 3 on. Every other
+// word is as it was.
 pub(crate) fn words_agree(out: &[i32; 20], row: &[i32], at: usize) -> bool
     requires { ⌜ at ≤ 1000 ⌝ }
 {

@@ -1,6 +1,7 @@
-// Runs sequences of calls on drawings, and says of each table how many rows were run and how many differ.
-// `python3 -m model` makes its input, from model/tables/calls.py. The answers of the first table are worked by hand from
-// 01; those of the others come from model/calls.py. The head of model/ says what had been read before that was written.
+// Runs sequences of calls on drawings, and says of each table how many rows were run and how many
+// differ. `python3 -m model` makes its input, from model/tables/calls.py. The answers of the first
+// table are worked by hand from 01; those of the others come from model/calls.py. The head of
+// model/ says what had been read before that was written.
 mod calls;
 mod cases;
 mod lent;

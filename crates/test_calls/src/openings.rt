@@ -3,7 +3,8 @@ use drawing::Opened;
 use drawing::Opening;
 use drawing::open;
 
-// A drawing at the row's scale and parameters, or the one beside a refusal. A list has up to eight pairs.
+// A drawing at the row's scale and parameters, or the one beside a refusal. A list has up to eight
+// pairs.
 pub(crate) fn opened_by(row: &[i32]) -> Opened {
     open(test_tables::params(row, 8), test_tables::fixed(row, 1))
 }

@@ -1,4 +1,5 @@
--- The figures that 01 stars ("Marked figures"), in one list: beside what 01 says stands what the definitions give. A later part adds its rows here.
+-- The figures that 01 stars ("Marked figures"), in one list: beside what 01 says stands what the
+-- definitions give. A later part adds its rows here.
 use mathlib.Core.Path.{_≡_}
 use mathlib.Core.Bool.{Bool, true, false}
 use mathlib.Core.List.{List, [], _∷_, _++_, map}
@@ -49,13 +50,24 @@ answers m (suc n) = isActive m n ∷ answers m n
 abbrev pub declared : Fixed → Fixed → StemHint
 declared min max = record { «is_used» = false; min = min; max = max; «ds_min» = bits 0; «ds_max» = bits 0 }
 
--- no blues in group 0, with a blue scale, and the map that one stem from 16 to 80 gives at a scale of 2048 bits
+-- no blues in group 0, with a blue scale, and the map that one stem from 16 to 80 gives at a scale
+-- of 2048 bits
 abbrev pub noBlues : Blues
 noBlues = record { pairs = replicate 7 (record { bottom = bits 0; top = bits 0 }); count = 0 }
 
 abbrev pub plain : HintState
 plain =
-    stateOf (record { «blue_scale» = bits 2597; «blue_shift» = whole 7; «blue_fuzz» = whole 1; «language_group» = pos 0; blues = noBlues; «other_blues» = noBlues; «family_blues» = noBlues; «family_other_blues» = noBlues }) (bits 2048)
+    stateOf (record {
+      «blue_scale» = bits 2597;
+      «blue_shift» = whole 7;
+      «blue_fuzz» = whole 1;
+      «language_group» = pos 0;
+      blues = noBlues;
+      «other_blues» = noBlues;
+      «family_blues» = noBlues;
+      «family_other_blues» = noBlues;
+    })
+    (bits 2048)
 
 abbrev pub oneStem : Stems
 oneStem = record { list = declared (whole 16) (whole 80) ∷ replicate 95 (declared (bits 0) (bits 0)); count = 1 }
@@ -75,7 +87,11 @@ rows =
     ∷ record { Of = Shape; said = Pair (whole 78) (whole 100); given = shapeOf (declared (whole 100) (whole 78)) }
     -- that map's device heights, and where it carries 0 and 48
     ∷ record { Of = List Fixed; said = whole 1 ∷ whole 3 ∷ []; given = map (λ (e : Hint). e .«ds_coord») (view fitted) }
-    ∷ record { Of = List Fixed; said = bits 32768 ∷ whole 2 ∷ []; given = mapOf (view fitted) (bits 2048) (whole 0) ∷ mapOf (view fitted) (bits 2048) (whole 48) ∷ [] }
+    ∷ record {
+      Of = List Fixed;
+      said = bits 32768 ∷ whole 2 ∷ [];
+      given = mapOf (view fitted) (bits 2048) (whole 0) ∷ mapOf (view fitted) (bits 2048) (whole 48) ∷ [];
+    }
     -- the boost of blue scale 2597 at scale 2048 and at scale 1
     ∷ record { Of = Fixed; said = bits 8313; given = boostOf (bits 2048) (bits 2597) }
     ∷ record { Of = Fixed; said = bits 32767; given = boostOf (bits 1) (bits 2597) }

@@ -28,8 +28,8 @@ pub(crate) fn captures_agree(row: &[i32]) -> bool {
     true
 }
 
-// From `at` on: a stem's ends, 1 if it is captured, and of the bottom edge and of the top edge 1 if it
-// is locked and the device height.
+// From `at` on: a stem's ends, 1 if it is captured, and of the bottom edge and of the top edge 1 if
+// it is locked and the device height.
 fn capture_agrees(state: HintState, row: &[i32], at: usize) -> bool
     requires { ⌜ at ≤ 300 ⌝ }
 {

@@ -10,8 +10,8 @@ pub(crate) fn run() {
     tables::run(b"edges", Rows::Edges);
 }
 
-// A row: a stem, its number and a scale; of the bottom edge and of the top edge the kind, 1 if it is
-// locked, the height and the device height.
+// A row: a stem, its number and a scale; of the bottom edge and of the top edge the kind, 1 if it
+// is locked, the height and the device height.
 pub(crate) fn edges_agree(row: &[i32]) -> bool {
     let stem = StemHint {
         is_used: test_tables::flag(row, 3),

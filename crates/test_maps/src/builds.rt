@@ -36,8 +36,8 @@ pub(crate) fn build_agrees(row: &[i32]) -> bool {
     masks_agree(state, stems, initial, row, edges::after_edges(row, edges))
 }
 
-// From `at` to the end: a mask and its map's edges, and once more; the stems after both; heights that the
-// first map maps.
+// From `at` to the end: a mask and its map's edges, and once more; the stems after both; heights
+// that the first map maps.
 fn masks_agree(state: HintState, stems: Stems, initial: HintMap, row: &[i32], at: usize) -> bool
     requires { ⌜ at ≤ 300 ⌝ }
 {

@@ -28,8 +28,8 @@ pub(crate) fn after_edges(row: &[i32], at: usize) -> usize
     at + 1 + 7 * test_tables::count(row, at, 20)
 }
 
-// From `at` on: the kind, 1 if the edge is locked, 1 if it is synthetic, its stem's number, height, device
-// height and scale.
+// From `at` on: the kind, 1 if the edge is locked, 1 if it is synthetic, its stem's number, height,
+// device height and scale.
 fn edge_agrees(edge: Hint, row: &[i32], at: usize) -> bool
     requires { ⌜ at ≤ 2000 ⌝ }
 {

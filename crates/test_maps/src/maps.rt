@@ -14,8 +14,8 @@ pub(crate) fn run() {
     tables::run(b"maps edge by edge", Rows::Maps);
 }
 
-// A row: a scale, 1 if the initial map is given, the stems of that map and those of the map; the map's
-// edges, and heights.
+// A row: a scale, 1 if the initial map is given, the stems of that map and those of the map; the
+// map's edges, and heights.
 pub(crate) fn map_agrees(row: &[i32]) -> bool {
     let none = HintMap::new(test_tables::fixed(row, 1));
     let initial = with_stems(none, row, 3, none, false);

@@ -1,4 +1,5 @@
-// '95 edges: a single enters, a pair is dropped' (01, "Marked figures"), with 94 and 96 edges beside it.
+// '95 edges: a single enters, a pair is dropped' (01, "Marked figures"), with 94 and 96 edges
+// beside it.
 use crate::maps;
 use fixed::Fixed;
 use hintmap::HintMap;
@@ -15,7 +16,8 @@ pub(crate) fn run() {
     test_tables::counts(b"room for edges", 6, few + one_left + full);
 }
 
-// 1 if a map of so many edges has another number of them than expected once the stem comes, or else 0.
+// 1 if a map of so many edges has another number of them than expected once the stem comes, or else
+// 0.
 fn differs(edges: usize, stem: StemHint, expected: usize) -> usize
     ensures { λ r. ⌜ r ≤ 1 ⌝ }
 {

@@ -1,4 +1,5 @@
--- One turn of each loop: the words that are lent, and the search for a word that differs. Assumes nothing.
+-- One turn of each loop: the words that are lent, and the search for a word that differs. Assumes
+-- nothing.
 use mathlib.Core.Path.{_≡_, refl, ap}
 use mathlib.Core.Bool.{cond}
 use mathlib.Core.List.{List}
@@ -16,7 +17,8 @@ lent-length fill zero out = refl
 lent-length fill (suc k) out = simp length-set (lent-length fill k out)
 
 -- a search that has not ended looks at word i
-pub looks : (out : List ℤ) (stored : List ℕ) (i n : ℕ) → i < n → firstFrom out stored i (n - i) ≡ cond (agrees out stored i) (firstFrom out stored (suc i) (n - suc i)) i
+pub looks : (out : List ℤ) (stored : List ℕ) (i n : ℕ) → i < n →
+    firstFrom out stored i (n - i) ≡ cond (agrees out stored i) (firstFrom out stored (suc i) (n - suc i)) i
 unfolding firstFrom
 looks out stored i n h =
     let e : n - i ≡ suc (n - suc i) = omega arith in

@@ -14,7 +14,8 @@ use Rattle.test_scripts.specs.declared.judging.Verdict.{Verdict}
 use Rattle.test_scripts.specs.declared.judging.Verdict.the-variants.{Same, Number, Place, Word}
 
 -- ---- the words that are lent
--- word i: the fill, and 0x9E3779B1, which is −1640531535 as a word, for each word before it, cut to 32 bits
+-- word i: the fill, and 0x9E3779B1, which is −1640531535 as a word, for each word before it, cut to
+-- 32 bits
 unfoldable pub lentWord : Fixed → ℕ → Fixed
 lentWord fill zero = fill
 lentWord fill (suc i) = addF (lentWord fill i) (fromBits (negℤ (pos 1640531535)))
@@ -53,4 +54,6 @@ byNumber false v = Number
 -- a case's header has the number at word 4 and the place at word 5
 unfoldable pub verdictOf : List ℕ → List ℕ → Result → Verdict
 verdictOf head stored r =
-    byNumber (eqb (numberOf (r .answer)) (rawAt head 4)) (byPlace (eqb (placeOf (r .answer)) (rawAt head 5)) (byWord (ltb (firstDifferent (r .left) stored) (length (r .left))) (firstDifferent (r .left) stored)))
+    byNumber (eqb (numberOf (r .answer)) (rawAt head 4))
+    (byPlace (eqb (placeOf (r .answer)) (rawAt head 5))
+    (byWord (ltb (firstDifferent (r .left) stored) (length (r .left))) (firstDifferent (r .left) stored)))

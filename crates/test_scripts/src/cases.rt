@@ -18,7 +18,8 @@ pub(crate) struct Judged {
     pub verdict: Verdict,
 }
 
-// One case. There is place for 16,400 words of script, which are more than a script may have, and for 4,096 of room.
+// One case. There is place for 16,400 words of script, which are more than a script may have, and
+// for 4,096 of room.
 pub(crate) fn case(file: i32) -> Seen {
     let mut script = [0u8; 65600];
     let mut stored = [0u8; 16384];
@@ -26,7 +27,8 @@ pub(crate) fn case(file: i32) -> Seen {
     read_case(file, &mut script, &mut stored, &mut out)
 }
 
-// Reads a case, which is six words of header, the script up to a whole word, and the words of the room.
+// Reads a case, which is six words of header, the script up to a whole word, and the words of the
+// room.
 fn read_case(file: i32, script: &mut [u8], stored: &mut [u8], out: &mut [i32]) -> Seen {
     let mut head = [0u8; 24];
     if io::read_full(file, &mut head) < 24 {
@@ -58,7 +60,8 @@ fn read_rest(
     stored: &mut [u8],
     out: &mut [i32],
 ) -> Seen
-    requires { ⌜ (24 ≤ length (now head)) × ((bytes ≤ length (now padded)) × (4 * length (now out) ≤ length (now stored))) ⌝ }
+    requires { ⌜ (24 ≤ length (now head)) ×
+        ((bytes ≤ length (now padded)) × (4 * length (now out) ≤ length (now stored))) ⌝ }
 {
     if io::read_full(file, padded) < padded.len() {
         return Seen::Cut;

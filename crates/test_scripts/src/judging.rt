@@ -47,10 +47,13 @@ fn first_different(out: &[i32], stored: &[u8]) -> usize
     out.len()
 }
 
-// Runs a script. The six words of a case's header have the fill at 2, the number at 4 and the place at 5.
+// Runs a script. The six words of a case's header have the fill at 2, the number at 4 and the place
+// at 5.
 pub(crate) fn judged(head: &[u8], script: &[u8], stored: &[u8], out: &mut [i32]) -> Verdict
     requires { ⌜ (24 ≤ length (now head)) × (4 * length (now out) ≤ length (now stored)) ⌝ }
-    ensures { λ r. ⌜ r ≡ verdictOf (now (head .entry)) (now (stored .entry)) (scriptOf (now (script .entry)) (lent (numberAt (rawAt (now (head .entry))) 2) (length (now (out .entry))) (now (out .entry)))) ⌝ }
+    ensures { λ r. ⌜ r ≡ verdictOf (now (head .entry)) (now (stored .entry))
+        (scriptOf (now (script .entry))
+        (lent (numberAt (rawAt (now (head .entry))) 2) (length (now (out .entry))) (now (out .entry)))) ⌝ }
 {
     lend(out, number(head, 2));
     let answer = run_script(script, out);

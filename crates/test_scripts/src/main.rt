@@ -1,6 +1,6 @@
-// Runs scripts whose answers are stored, and says of each table how many were run and how many differ: tables made from
-// 01, and a sample of the comparison with the Rust. Of the sample it says too how many end with each of 01's numbers, and
-// on how many the Rust differs from 01.
+// Runs scripts whose answers are stored, and says of each table how many were run and how many
+// differ: tables made from 01, and a sample of the comparison with the Rust. Of the sample it says
+// too how many end with each of 01's numbers, and on how many the Rust differs from 01.
 mod cases;
 mod judging;
 mod report;
@@ -10,9 +10,9 @@ fn main() {
     sample();
 }
 
-// `python3 -m model` makes this file, from model/tables/scripts.py. The answers of the first table are worked by hand
-// from 01. Numbers and places of the next eight are written by hand from its table; the rest comes from
-// model/script.py.
+// `python3 -m model` makes this file, from model/tables/scripts.py. The answers of the first table
+// are worked by hand from 01. Numbers and places of the next eight are written by hand from its
+// table; the rest comes from model/script.py.
 fn tables() {
     let file = os::open_read(b"scripts.bin");
     if file < 0 {

@@ -10,7 +10,8 @@ use libc::STDOUT_FILENO;
 use std::num::wrapping_add_usize;
 use words::natural;
 
-// How many cases were run, how many of them differ, how many are marked, and how many have each number.
+// How many cases were run, how many of them differ, how many are marked, and how many have each
+// number.
 struct Tally {
     run: usize,
     differ: usize,

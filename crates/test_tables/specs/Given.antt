@@ -75,7 +75,8 @@ familyOthersAt row most = familyAt row most + 2 * countIn row 8 most
 abbrev pub afterPairsIn : List ℤ → ℕ → ℕ
 afterPairsIn row most = familyOthersAt row most + 2 * countIn row 9 most
 
--- from place 2 on: blue scale, shift, fuzz and group, the four counts, each at most so many, the lists
+-- from place 2 on: blue scale, shift, fuzz and group, the four counts, each at most so many, the
+-- lists
 unfoldable pub paramsIn : List ℤ → ℕ → HintParams
 paramsIn row most =
     record {
@@ -89,7 +90,8 @@ paramsIn row most =
       «family_other_blues» = bluesIn row (familyOthersAt row most) (countIn row 9 most);
     }
 
--- the state of the parameters, at most seven pairs a list, at the scale of place 1, or one bit where that is greater
+-- the state of the parameters, at most seven pairs a list, at the scale of place 1, or one bit
+-- where that is greater
 unfoldable pub stateIn : List ℤ → HintState
 stateIn row = stateOf (paramsIn row 7) (maxF (fixedIn row 1) (fromBits (pos 1)))
 

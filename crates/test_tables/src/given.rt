@@ -20,8 +20,8 @@ pub fn state(row: &[i32]) -> HintState
     HintState::new(params(row, 7), fixed(row, 1).max(Fixed::EPSILON))
 }
 
-// From place 2 on: blue scale, shift, fuzz and group; the counts of blues, other blues, family blues and family
-// other blues, each at most so many; the pairs.
+// From place 2 on: blue scale, shift, fuzz and group; the counts of blues, other blues, family
+// blues and family other blues, each at most so many; the pairs.
 pub fn params(row: &[i32], most: usize) -> HintParams
     requires { ⌜ most ≤ 8 ⌝ }
     ensures { λ r. ⌜ r ≡ paramsIn (now (row .entry)) most ⌝ }
@@ -55,7 +55,8 @@ pub fn after_pairs(row: &[i32], most: usize) -> usize
     10 + 2 * (blues + family)
 }
 
-// So many pairs from `at` on. Numbers of the row fill the places past the count, and an eighth pair has none.
+// So many pairs from `at` on. Numbers of the row fill the places past the count, and an eighth pair
+// has none.
 fn blues_at(row: &[i32], at: usize, count: usize) -> Blues
     requires { ⌜ at ≤ 100 ⌝ }
     ensures { λ r. ⌜ r ≡ bluesIn (now (row .entry)) at count ⌝ }

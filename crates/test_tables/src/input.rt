@@ -1,5 +1,6 @@
-// The input of a program: tables one behind the other, each with the count of its rows in front. A row starts with the
-// count of its numbers. All are words of four bytes, the least byte first. Past the input's end there are only zeros.
+// The input of a program: tables one behind the other, each with the count of its rows in front. A
+// row starts with the count of its numbers. All are words of four bytes, the least byte first. Past
+// the input's end there are only zeros.
 use io::read_full;
 use libc::STDIN_FILENO;
 use words::natural;
@@ -20,8 +21,9 @@ fn next_number() -> i32 {
     word(&bytes, 0)
 }
 
-// Reads the next row, and answers how many places it takes: one for the count, and one for each number. It takes none if
-// it has no numbers, as past the input's end, or more than there is place for.
+// Reads the next row, and answers how many places it takes: one for the count, and one for each
+// number. It takes none if it has no numbers, as past the input's end, or more than there is place
+// for.
 pub fn next_row(row: &mut [i32]) -> usize
     ensures { λ r. ⌜ r ≤ length (now (row .exit)) ⌝ }
 {

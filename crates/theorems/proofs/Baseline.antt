@@ -1,4 +1,5 @@
--- The baseline is put into an initial map exactly if it has no edges, or all lie above 0, or all below: the first edge and the last tell. Assumes nothing.
+-- The baseline is put into an initial map exactly if it has no edges, or all lie above 0, or all
+-- below: the first edge and the last tell. Assumes nothing.
 use mathlib.Core.Path.{_≡_, refl, ap}
 use mathlib.Core.Bool.{Bool, true, false, _||_}
 use mathlib.Core.Logic.{inl, inr}
@@ -35,17 +36,20 @@ module _ (m : HintMap) (g : Good m) where
   read : (i : ℕ) → i < m .len → height m i ≡ high i
   read i l = ap (λ (e : Hint). e .«cs_coord») (getD-take (m .len) (m .edges) i noHint l)
 
-  tested : (none′ first last : Bool) → eqb (m .len) 0 ≡ none′ → lessF ZERO (high 0) ≡ first → lessF (high (m .len - 1)) ZERO ≡ last → (none′ || (first || last)) ≡ true → Uncovered m
+  tested : (none′ first last : Bool) → eqb (m .len) 0 ≡ none′ → lessF ZERO (high 0) ≡ first →
+      lessF (high (m .len - 1)) ZERO ≡ last → (none′ || (first || last)) ≡ true → Uncovered m
   tested true first last e f l t = none (eqb-true (m .len) 0 e)
   tested false true last e f l t =
       let n = eqb-false (m .len) 0 e in
       above (λ i k. let r = rising .rising 0 i (omega arith) k in let q = read 0 (omega arith) in omega heights)
   tested false false true e f l t =
       let n = eqb-false (m .len) 0 e in
-      below (λ i k. let r = rising .rising i (m .len - 1) (omega arith) (omega arith) in let q = read (m .len - 1) (omega arith) in omega heights)
+      below (λ i k. let r = rising .rising i (m .len - 1) (omega arith) (omega arith) in
+      let q = read (m .len - 1) (omega arith) in omega heights)
   tested false false false e f l t = let z : _≡_ {A = ℕ} 0 1 = cc in absurd (omega arith)
 
-  covered : (none′ first last : Bool) → eqb (m .len) 0 ≡ none′ → lessF ZERO (high 0) ≡ first → lessF (high (m .len - 1)) ZERO ≡ last → (none′ || (first || last)) ≡ false → Uncovered m → ⊥
+  covered : (none′ first last : Bool) → eqb (m .len) 0 ≡ none′ → lessF ZERO (high 0) ≡ first →
+      lessF (high (m .len - 1)) ZERO ≡ last → (none′ || (first || last)) ≡ false → Uncovered m → ⊥
   covered true first last e f l t u = let z : _≡_ {A = ℕ} 0 1 = cc in omega arith
   covered false true last e f l t u = let z : _≡_ {A = ℕ} 0 1 = cc in omega arith
   covered false false true e f l t u = let z : _≡_ {A = ℕ} 0 1 = cc in omega arith
@@ -79,5 +83,6 @@ module _ (m : HintMap) (g : Good m) where
       go false e = record { put = λ u. absurd (covered-is e u); left = λ n. refl; either = inr (covered-is e) }
 
 -- so it is in every initial build
-pub initial-baseline : (st : HintState) (ss : Stems) → Baselined (initialPlaced st ss .map) (baselined (initialPlaced st ss .map))
+pub initial-baseline : (st : HintState) (ss : Stems) →
+    Baselined (initialPlaced st ss .map) (baselined (initialPlaced st ss .map))
 initial-baseline st ss = baseline-put (initialPlaced st ss .map) (initial-placed-good st ss)

@@ -1,4 +1,5 @@
--- Demand 3: of every drawing that there can be, and of every drawing that a script's run goes through. Assumes nothing.
+-- Demand 3: of every drawing that there can be, and of every drawing that a script's run goes
+-- through. Assumes nothing.
 use mathlib.Core.Path.{_≡_, refl, sym, ap, subst, _∙_}
 use mathlib.Core.Bool.{true, false}
 use mathlib.Core.List.{List, [], _∷_, _++_}
@@ -36,7 +37,8 @@ use Rattle.theorems.proofs.Sound.{sound, Fine, fine, fine-ready, opened
 use Rattle.theorems.proofs.Made.{Made, made-new, made-next, made-room, pointed}
 
 -- ---- what is kept along calls says what demand 3 says
-demanded : {Was : Drawing → Type 0} {st : HintState} {d : Drawing} → Fine st (d .hints) → Made Was st d → Demand3 Was st d
+demanded : {Was : Drawing → Type 0} {st : HintState} {d : Drawing} → Fine st (d .hints) → Made Was st d →
+    Demand3 Was st d
 demanded {st = st} {d = d} f g =
     record {
       initial = sound (d .hints .initial) (f .initial);
@@ -46,7 +48,9 @@ demanded {st = st} {d = d} f g =
       initialMade = g .initial;
       mapMade = g .map;
       current = sound (readyOf st (d .hints) .map) (fine-ready st (d .hints) f .map);
-      thrown = λ m. sound (counterMap st d m) (built-good st m (withInitial st (d .hints) .initial) (withInitial st (d .hints) .stems));
+      thrown =
+          λ m. sound (counterMap st d m)
+          (built-good st m (withInitial st (d .hints) .initial) (withInitial st (d .hints) .stems));
       pointed = pointed st d;
       waiting = g .waiting;
     }
@@ -55,8 +59,11 @@ demanded {st = st} {d = d} f g =
 made : {st : HintState} {d : Drawing} → Reached st d → Made (Earlier st d) st d
 made (opened p s) =
     let st = openOf p s .state in
-    subst (Made (Earlier st (openOf p s .drawing)) st) (sym (opened-new p s)) (made-new (Earlier st (openOf p s .drawing)) st (st .scale))
-made (called {st} {d} r c room) = made-room st {Will = Earlier st (afterRoom room st d c)} d kept itself (made r) (leb (length (wordsFor st d c)) room) c
+    subst (Made (Earlier st (openOf p s .drawing)) st) (sym (opened-new p s))
+    (made-new (Earlier st (openOf p s .drawing)) st (st .scale))
+made (called {st} {d} r c room) =
+    made-room st {Will = Earlier st (afterRoom room st d c)} d kept itself (made r)
+    (leb (length (wordsFor st d c)) room) c
   where
     kept : (e : Drawing) → Earlier st d e → Earlier st (afterRoom room st d c) e
     kept e w = record { reached = w .reached; since = next (w .since) c room }
@@ -73,15 +80,19 @@ reached-next {st} {d} r c =
     let n = length (wordsFor st d c) in
     rw (le-leb n n (omega arith)) at (called r c n)
 
-pub reached-called : {st : HintState} {d : Drawing} → Reached st d → (c : Call) {out left : List ℤ} {said : After} → Called st d c out said left → Reached st (said .drawing)
+pub reached-called : {st : HintState} {d : Drawing} → Reached st d → (c : Call) {out left : List ℤ} {said : After} →
+    Called st d c out said left → Reached st (said .drawing)
 reached-called {st} r c {out} e = subst (λ (x : Drawing). Reached st x) (sym (e .drawing)) (called r c (length out))
 
 -- ---- over scripts
 -- the calls behind some are made on the drawing after these
-pub steps-behind : (st : HintState) (d : Drawing) (cs ds : List Asked) → stepsOf st d (cs ++ ds) ≡ stepsOf st d cs ++ stepsOf st (drawingAfter st d cs) ds
+pub steps-behind : (st : HintState) (d : Drawing) (cs ds : List Asked) →
+    stepsOf st d (cs ++ ds) ≡ stepsOf st d cs ++ stepsOf st (drawingAfter st d cs) ds
 unfolding stepsOf drawingAfter
 steps-behind st d [] ds = refl
-steps-behind st d (c ∷ cs) ds = ap (λ (l : List Step). record { place = c .place; words = wordsFor st d (c .call) } ∷ l) (steps-behind st (nextOf st d (c .call)) cs ds)
+steps-behind st d (c ∷ cs) ds =
+    ap (λ (l : List Step). record { place = c .place; words = wordsFor st d (c .call) } ∷ l)
+    (steps-behind st (nextOf st d (c .call)) cs ds)
 
 -- what can be reached stays so
 reached-after : {st : HintState} {d : Drawing} → Reached st d → (cs : List Asked) → Reached st (drawingAfter st d cs)
@@ -90,16 +101,24 @@ reached-after r [] = r
 reached-after r (c ∷ cs) = reached-after (reached-next r (c .call)) cs
 
 -- and so does what is made on the way
-made-along : (Was : Drawing → Type 0) (st : HintState) (d : Drawing) (cs : List Asked) → ((e : Drawing) → Along st d cs e → Was e) → Made Was st d → Made Was st (drawingAfter st d cs)
+made-along : (Was : Drawing → Type 0) (st : HintState) (d : Drawing) (cs : List Asked) →
+    ((e : Drawing) → Along st d cs e → Was e) → Made Was st d → Made Was st (drawingAfter st d cs)
 unfolding drawingAfter
 made-along Was st d [] w g = g
-made-along Was st d (c ∷ cs) w g = made-along Was st (nextOf st d (c .call)) cs later (made-next st {Will = Was} d (λ e x. x) (w d start) g (c .call))
+made-along Was st d (c ∷ cs) w g =
+    made-along Was st (nextOf st d (c .call)) cs later (made-next st {Will = Was} d (λ e x. x) (w d start) g (c .call))
   where
     start : Along st d (c ∷ cs) d
     start = record { before = []; after = c ∷ cs; split = refl; there = refl }
 
     later : (e : Drawing) → Along st (nextOf st d (c .call)) cs e → Was e
-    later e a = w e (record { before = c ∷ a .before; after = a .after; split = ap (λ (l : List Asked). c ∷ l) (a .split); there = a .there })
+    later e a =
+        w e (record {
+          before = c ∷ a .before;
+          after = a .after;
+          split = ap (λ (l : List Asked). c ∷ l) (a .split);
+          there = a .there;
+        })
 
 -- opening as a script does
 fit : (s : List ℕ) → WholeParams s → countsFit (paramsOf (rawAt s)) ≡ true
@@ -112,7 +131,8 @@ module _ (s : List ℕ) (k : Checked s) where
   scale-fine = none-holds Ok (paramRows (rawAt s)) (params-refusing s) (passed s k .params) 0
 
   -- a script that passes all tests starts with what opening gives
-  pub opens : openOf (paramsOf (rawAt s)) (numberAt (rawAt s) 1) ≡ record { answer = Opens; state = zonesOf s; drawing = newDrawing (numberAt (rawAt s) 1) }
+  pub opens : openOf (paramsOf (rawAt s)) (numberAt (rawAt s) 1) ≡
+      record { answer = Opens; state = zonesOf s; drawing = newDrawing (numberAt (rawAt s) 1) }
   unfolding openOf zonesOf
   opens = rw (scale-fine, fit s (passed s k .whole))
 
@@ -121,13 +141,19 @@ module _ (s : List ℕ) (k : Checked s) where
   reached cs = reached-after start cs
     where
       start : Reached (zonesOf s) (newDrawing (numberAt (rawAt s) 1))
-      start = subst (λ (o : Opened). Reached (o .state) (o .drawing)) opens (opened (paramsOf (rawAt s)) (numberAt (rawAt s) 1))
+      start =
+          subst (λ (o : Opened). Reached (o .state) (o .drawing)) opens
+          (opened (paramsOf (rawAt s)) (numberAt (rawAt s) 1))
 
-  -- and has what demand 3 says, by the drawings on the way; of the calls that are left, each writes what it writes on that drawing
+  -- and has what demand 3 says, by the drawings on the way; of the calls that are left, each writes
+  -- what it writes on that drawing
   pub demand-3-in : (cs ds : List Asked) → callsIn s ≡ cs ++ ds →
-      Demand3 (OnTheWay s cs) (zonesOf s) (drawingIn s cs) × (stepsIn s ≡ stepsOf (zonesOf s) (newDrawing (numberAt (rawAt s) 1)) cs ++ stepsOf (zonesOf s) (drawingIn s cs) ds)
+      Demand3 (OnTheWay s cs) (zonesOf s) (drawingIn s cs) ×
+      (stepsIn s ≡ stepsOf (zonesOf s) (newDrawing (numberAt (rawAt s) 1)) cs ++
+      stepsOf (zonesOf s) (drawingIn s cs) ds)
   unfolding stepsIn
   demand-3-in cs ds e =
       let new = newDrawing (numberAt (rawAt s) 1) in
-      let m = made-along (OnTheWay s cs) (zonesOf s) new cs (λ x a. a) (made-new (OnTheWay s cs) (zonesOf s) (numberAt (rawAt s) 1)) in
+      let m = made-along (OnTheWay s cs) (zonesOf s) new cs (λ x a. a)
+      (made-new (OnTheWay s cs) (zonesOf s) (numberAt (rawAt s) 1)) in
       (demanded (fine (reached cs)) m, ap (stepsOf (zonesOf s) new) e ∙ steps-behind (zonesOf s) new cs ds)

@@ -1,4 +1,5 @@
--- Laws of the tests of the commands: the first command with a fault gives the answer. Assumes nothing.
+-- Laws of the tests of the commands: the first command with a fault gives the answer. Assumes
+-- nothing.
 use mathlib.Core.Path.{_≡_, refl, ap, _∙_}
 use mathlib.Core.Bool.{Bool, true, false}
 use mathlib.Core.List.{List, [], _∷_, _++_}
@@ -32,15 +33,20 @@ module _ (bytes : ℕ) where
   rows-append (b ∷ bs) cs = rw (rows-append bs cs)
 
   -- behind commands without a fault
-  module _ (before : List CommandAt) (at : CommandAt) (after : List CommandAt) (fine : firstOf (commandRows bytes before) ≡ Ok) where
+  module _ (before : List CommandAt) (at : CommandAt) (after : List CommandAt)
+      (fine : firstOf (commandRows bytes before) ≡ Ok) where
     behind : firstOf (commandRows bytes (before ++ at ∷ after)) ≡ firstOf (commandRows bytes (at ∷ after))
-    behind = ap firstOf (rows-append before (at ∷ after)) ∙ onward Ok (commandRows bytes before) (commandRows bytes (at ∷ after)) (rows-refusing bytes before) fine
+    behind =
+        ap firstOf (rows-append before (at ∷ after)) ∙
+        onward Ok (commandRows bytes before) (commandRows bytes (at ∷ after)) (rows-refusing bytes before) fine
 
-    pub command-answer : isBad (at .command) ≡ true → firstOf (commandRows bytes (before ++ at ∷ after)) ≡ BadCommand (at .place)
+    pub command-answer : isBad (at .command) ≡ true →
+        firstOf (commandRows bytes (before ++ at ∷ after)) ≡ BadCommand (at .place)
     unfolding commandRows firstOr
     command-answer e = behind ∙ rw e
 
-    pub mask-answer : hasBadMask bytes (at .command) ≡ true → firstOf (commandRows bytes (before ++ at ∷ after)) ≡ BadMask (at .place)
+    pub mask-answer : hasBadMask bytes (at .command) ≡ true →
+        firstOf (commandRows bytes (before ++ at ∷ after)) ≡ BadMask (at .place)
     unfolding commandRows firstOr
     mask-answer e = behind ∙ rw (one-fault (at .command) e, e)
 
@@ -59,8 +65,18 @@ module _ (bytes : ℕ) where
   fine-or-fault [] = inl refl
   fine-or-fault (c ∷ cs) = by (isBad (c .command)) (hasBadMask bytes (c .command)) refl refl (fine-or-fault cs)
     where
-      by : (u v : Bool) → isBad (c .command) ≡ u → hasBadMask bytes (c .command) ≡ v → (firstOf (commandRows bytes cs) ≡ Ok) ⊎ Fault cs → (firstOf (commandRows bytes (c ∷ cs)) ≡ Ok) ⊎ Fault (c ∷ cs)
+      by : (u v : Bool) → isBad (c .command) ≡ u → hasBadMask bytes (c .command) ≡ v →
+          (firstOf (commandRows bytes cs) ≡ Ok) ⊎ Fault cs →
+          (firstOf (commandRows bytes (c ∷ cs)) ≡ Ok) ⊎ Fault (c ∷ cs)
       by true v e f w = inr (record { before = []; at = c; after = cs; split = refl; fine = refl; holds = inl e })
       by false true e f w = inr (record { before = []; at = c; after = cs; split = refl; fine = refl; holds = inr f })
       by false false e f (inl h) = inl (rw (e, f) h)
-      by false false e f (inr o) = inr (record { before = c ∷ o .before; at = o .at; after = o .after; split = ap (λ (l : List CommandAt). c ∷ l) (o .split); fine = rw (e, f) (o .fine); holds = o .holds })
+      by false false e f (inr o) =
+          inr (record {
+            before = c ∷ o .before;
+            at = o .at;
+            after = o .after;
+            split = ap (λ (l : List CommandAt). c ∷ l) (o .split);
+            fine = rw (e, f) (o .fine);
+            holds = o .holds;
+          })

@@ -1,4 +1,5 @@
--- Where the maps and the waiting line of a drawing come from: a call makes them of the drawing that it is made on, or leaves them. Assumes nothing.
+-- Where the maps and the waiting line of a drawing come from: a call makes them of the drawing that
+-- it is made on, or leaves them. Assumes nothing.
 use mathlib.Core.Path.{_≡_, refl, sym, ap, _∙_}
 use mathlib.Core.Bool.{Bool, true, false, true≢false, _&&_, not}
 use lib.Dec.{ltb}
@@ -17,7 +18,8 @@ use Rattle.pen.proofs.Words.{words-emitted}
 use Rattle.hints.specs.declared.hints.Hints.{Hints}
 use Rattle.pen.specs.declared.strokes.Path.{Path}
 use Rattle.pen.specs.declared.strokes.Path.the-variants.{Move, Line, Curve, Finish}
-use Rattle.hints.specs.Hints.{stemBy, withStem, maskBy, withMask, initialBy, withInitial, countered, readyBy, readyOf, devicePoint}
+use Rattle.hints.specs.Hints.{stemBy, withStem, maskBy, withMask, initialBy, withInitial, countered, readyBy, readyOf}
+use Rattle.hints.specs.Hints.{devicePoint}
 use Rattle.hints.specs.Path.{hasPoint}
 use Rattle.hints.specs.declared.drawing.Drawing.{Drawing}
 use Rattle.hints.specs.Calls.{Call, stem, hintMask, counterMask, clear, close, draw, readyFor, strokeOf, nextOf, roomBy}
@@ -53,24 +55,29 @@ with-initial-valid st h = go (h .initial .«is_valid») refl
     go false e = initial-valid st (h .stems)
 
 -- what was there before stays before, and so is the drawing itself
-module _ (st : HintState) {Was Will : Drawing → Type 0} (d : Drawing) (kept : (e : Drawing) → Was e → Will e) (there : Will d) (g : Made Was st d) where
+module _ (st : HintState) {Was Will : Drawing → Type 0} (d : Drawing) (kept : (e : Drawing) → Was e → Will e)
+    (there : Will d) (g : Made Was st d) where
   -- ---- the initial map: left as it is
-  initial-left : (e : Drawing) → e .hints .initial ≡ d .hints .initial → e .hints .initial .«is_valid» ≡ true → InitialMade Will st e
+  initial-left : (e : Drawing) → e .hints .initial ≡ d .hints .initial → e .hints .initial .«is_valid» ≡ true →
+      InitialMade Will st e
   initial-left e q v =
       let m = g .initial (ap (λ (x : HintMap). x .«is_valid») (sym q) ∙ v) in
       record { then = m .then; was = kept (m .then) (m .was); invalid = m .invalid; made = q ∙ m .made }
 
   -- or made if there is none
-  initial-made : (e : Drawing) → e .hints .initial ≡ withInitial st (d .hints) .initial → e .hints .initial .«is_valid» ≡ true → InitialMade Will st e
+  initial-made : (e : Drawing) → e .hints .initial ≡ withInitial st (d .hints) .initial →
+      e .hints .initial .«is_valid» ≡ true → InitialMade Will st e
   unfolding withInitial
   initial-made e q v = go (d .hints .initial .«is_valid») refl q
     where
-      go : (b : Bool) → d .hints .initial .«is_valid» ≡ b → e .hints .initial ≡ initialBy b st (d .hints) .initial → InitialMade Will st e
+      go : (b : Bool) → d .hints .initial .«is_valid» ≡ b → e .hints .initial ≡ initialBy b st (d .hints) .initial →
+          InitialMade Will st e
       go true f p = initial-left e p v
       go false f p = record { then = d; was = there; invalid = f; made = p }
 
   -- ---- the current map: left as it is, with mask and initial map
-  map-left : (e : Drawing) → e .hints .map ≡ d .hints .map → e .hints .mask ≡ d .hints .mask → (d .hints .map .«is_valid» ≡ true → e .hints .initial ≡ d .hints .initial) →
+  map-left : (e : Drawing) → e .hints .map ≡ d .hints .map → e .hints .mask ≡ d .hints .mask →
+      (d .hints .map .«is_valid» ≡ true → e .hints .initial ≡ d .hints .initial) →
       e .hints .map .«is_valid» ≡ true → MapMade Will st e
   map-left e q k i v =
       let w = ap (λ (x : HintMap). x .«is_valid») (sym q) ∙ v in
@@ -89,7 +96,8 @@ module _ (st : HintState) {Was Will : Drawing → Type 0} (d : Drawing) (kept : 
   unfolding withInitial
   initial-stays v =
       let m = g .map v in
-      ap (λ (b : Bool). initialBy b st (d .hints) .initial) (ap (λ (x : HintMap). x .«is_valid») (m .initial) ∙ with-initial-valid st (m .then .hints))
+      ap (λ (b : Bool). initialBy b st (d .hints) .initial)
+      (ap (λ (x : HintMap). x .«is_valid») (m .initial) ∙ with-initial-valid st (m .then .hints))
 
   line-left : (at device : Point) → d .pen .waiting ≡ Waits at device → LineMade Will st at device
   line-left at device e =
@@ -108,7 +116,12 @@ module _ (st : HintState) {Was Will : Drawing → Type 0} (d : Drawing) (kept : 
   made-stem min max = go (not (d .hints .map .«is_valid») && ltb (d .hints .stems .count) 96)
     where
       go : (b : Bool) → Made Will st (withHints (stemBy b min max (d .hints)))
-      go true = record { initial = initial-left (withHints (stemBy true min max (d .hints))) refl; map = map-left (withHints (stemBy true min max (d .hints))) refl refl (λ v. refl); waiting = line-left }
+      go true =
+          record {
+            initial = initial-left (withHints (stemBy true min max (d .hints))) refl;
+            map = map-left (withHints (stemBy true min max (d .hints))) refl refl (λ v. refl);
+            waiting = line-left;
+          }
       go false = made-same
 
   made-mask : (m : HintMask) → Made Will st (withHints (withMask m (d .hints)))
@@ -117,14 +130,20 @@ module _ (st : HintState) {Was Will : Drawing → Type 0} (d : Drawing) (kept : 
     where
       go : (b : Bool) → Made Will st (withHints (maskBy b m (d .hints)))
       go true = made-same
-      go false = record { initial = initial-left (withHints (maskBy false m (d .hints))) refl; map = never; waiting = line-left }
+      go false =
+          record {
+            initial = initial-left (withHints (maskBy false m (d .hints))) refl;
+            map = never;
+            waiting = line-left;
+          }
 
   -- a counter mask makes an initial map if there is none
   module _ (m : HintMask) where
     abbrev after : Drawing
     after = withHints (countered st m (d .hints))
 
-    counter-leaves : (b : Bool) → (initialBy b st (d .hints) .map ≡ d .hints .map) × (initialBy b st (d .hints) .mask ≡ d .hints .mask)
+    counter-leaves : (b : Bool) →
+        (initialBy b st (d .hints) .map ≡ d .hints .map) × (initialBy b st (d .hints) .mask ≡ d .hints .mask)
     counter-leaves true = (refl, refl)
     counter-leaves false = (refl, refl)
 
@@ -132,7 +151,11 @@ module _ (st : HintState) {Was Will : Drawing → Type 0} (d : Drawing) (kept : 
     unfolding countered withInitial
     made-counter =
         let l = counter-leaves (d .hints .initial .«is_valid») in
-        record { initial = initial-made after refl; map = map-left after (l .0) (l .1) initial-stays; waiting = line-left }
+        record {
+          initial = initial-made after refl;
+          map = map-left after (l .0) (l .1) initial-stays;
+          waiting = line-left;
+        }
 
   -- a call with a point makes the current map, if it is invalid
   module _ (pen : Pen) (waits : (at device : Point) → pen .waiting ≡ Waits at device → LineMade Will st at device) where
@@ -148,7 +171,12 @@ module _ (st : HintState) {Was Will : Drawing → Type 0} (d : Drawing) (kept : 
     same-stems false = refl
 
     made-left : Made Will st (drawnWith (d .hints))
-    made-left = record { initial = initial-left (drawnWith (d .hints)) refl; map = map-left (drawnWith (d .hints)) refl refl (λ v. refl); waiting = waits }
+    made-left =
+        record {
+          initial = initial-left (drawnWith (d .hints)) refl;
+          map = map-left (drawnWith (d .hints)) refl refl (λ v. refl);
+          waiting = waits;
+        }
 
     made-prepared : Made Will st (drawnWith (readyOf st (d .hints)))
     unfolding readyOf withInitial
@@ -171,7 +199,8 @@ module _ (st : HintState) {Was Will : Drawing → Type 0} (d : Drawing) (kept : 
     made-path false = made-left
 
   -- a line that waits has its point carried by the current map; no other stroke leaves one
-  path-waits : (p : Path) (at device : Point) → strokeOf st (d .hints) (d .pen) (draw p) .pen .waiting ≡ Waits at device → LineMade Will st at device
+  path-waits : (p : Path) (at device : Point) →
+      strokeOf st (d .hints) (d .pen) (draw p) .pen .waiting ≡ Waits at device → LineMade Will st at device
   unfolding moveOf lineOf curveOf finishOf devicePoint
   path-waits (Move p) at device e = no-line at device e
   path-waits (Line p) at device e =

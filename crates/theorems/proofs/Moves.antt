@@ -1,4 +1,5 @@
--- The two moves of a hint are the smallest up and down that put either edge on a whole pixel: on the low 16 bits of the heights, which sums carry along. Assumes nothing.
+-- The two moves of a hint are the smallest up and down that put either edge on a whole pixel: on
+-- the low 16 bits of the heights, which sums carry along. Assumes nothing.
 use mathlib.Core.Path.{_≡_, refl, sym, ap, _∙_}
 use mathlib.Core.Bool.{Bool, true, false, cond}
 use Prim.Native.Nat.{ℕ, zero, suc, min, _+_, _-_, _*_, _/_, _%_, _^_, _≤_, _<_}
@@ -28,7 +29,8 @@ of-low (negsuc n) =
     let r = n % 65536 in
     let below : r < 65536 = mod-lt n (omega arith) in
     let parts : 0 + suc n * 65535 ≡ (n - n / 65536) * 65536 + (65535 - r) = omega arith in
-    let e : (0 + suc n * 65535) % 65536 ≡ 65535 - r = ap (λ (x : ℕ). x % 65536) parts ∙ mul-add-mod-self-right (n - n / 65536) 65536 (65535 - r) ∙ mod-eq-of-lt (omega arith) in
+    let e : (0 + suc n * 65535) % 65536 ≡ 65535 - r = ap (λ (x : ℕ). x % 65536) parts ∙
+    mul-add-mod-self-right (n - n / 65536) 65536 (65535 - r) ∙ mod-eq-of-lt (omega arith) in
     omega (arith, e)
 
 low-sum : (a b : ℤ) → lowBits 16 (a +ℤ b) ≡ (lowBits 16 a + lowBits 16 b) % 65536
@@ -78,7 +80,8 @@ next-bits l h = go (sameF (fromBits (pos l)) ZERO) refl
     fits : SFits w32 (pos 65536 -ℤ pos l)
     fits = omega (ints, of-sub (pos 65536) (pos l), one (pos 65536 -ℤ pos l))
 
-    go : (b : Bool) → sameF (fromBits (pos l)) ZERO ≡ b → cond b ZERO (fromBits (wrap32 (pos 65536 -ℤ pos l))) ≡ fromBits (pos ((65536 - l) % 65536))
+    go : (b : Bool) → sameF (fromBits (pos l)) ZERO ≡ b →
+        cond b ZERO (fromBits (wrap32 (pos 65536 -ℤ pos l))) ≡ fromBits (pos ((65536 - l) % 65536))
     go true e =
         let z : fromBits (pos l) ≡ ZERO = same-is (fromBits (pos l)) ZERO e in
         omega heights
@@ -98,7 +101,8 @@ min-bits : (a b : ℕ) → minF (fromBits (pos a)) (fromBits (pos b)) ≡ fromBi
 unfolding minF
 min-bits a b = go (atMostF (fromBits (pos a)) (fromBits (pos b))) refl
   where
-    go : (t : Bool) → atMostF (fromBits (pos a)) (fromBits (pos b)) ≡ t → cond t (fromBits (pos a)) (fromBits (pos b)) ≡ fromBits (pos (min a b))
+    go : (t : Bool) → atMostF (fromBits (pos a)) (fromBits (pos b)) ≡ t →
+        cond t (fromBits (pos a)) (fromBits (pos b)) ≡ fromBits (pos (min a b))
     go true e = omega heights
     go false e = omega heights
 
@@ -109,7 +113,8 @@ max-bits a b = go (atMostF (fromBits (negℤ (pos a))) (fromBits (negℤ (pos b)
     down : (k : ℕ) → (up (negℤ (pos k)) ≡ 0) × (dn (negℤ (pos k)) ≡ k)
     down k = (up-neg (pos k), dn-neg (pos k))
 
-    go : (t : Bool) → atMostF (fromBits (negℤ (pos a))) (fromBits (negℤ (pos b))) ≡ t → cond t (fromBits (negℤ (pos b))) (fromBits (negℤ (pos a))) ≡ fromBits (negℤ (pos (min a b)))
+    go : (t : Bool) → atMostF (fromBits (negℤ (pos a))) (fromBits (negℤ (pos b))) ≡ t →
+        cond t (fromBits (negℤ (pos b))) (fromBits (negℤ (pos a))) ≡ fromBits (negℤ (pos (min a b)))
     go true e = omega (heights, down a, down b, down (min a b))
     go false e = omega (heights, down a, down b, down (min a b))
 
@@ -139,11 +144,14 @@ unfolding toPixel
 no-fall l v h k e = omega arith
 
 -- a move lands exactly if its low bits make up a whole pixel with those of the height
-lands-by : (x by : Fixed) (r : ℕ) → lowBits 16 (by .bits) ≡ r → (lowBits 16 (x .bits) + r) % 65536 ≡ 0 → fractF (addF x by) ≡ ZERO
+lands-by : (x by : Fixed) (r : ℕ) → lowBits 16 (by .bits) ≡ r → (lowBits 16 (x .bits) + r) % 65536 ≡ 0 →
+    fractF (addF x by) ≡ ZERO
 lands-by x by r e h = on-pixel (addF x by) (low-moved x by ∙ ap (λ (n : ℕ). (lowBits 16 (x .bits) + n) % 65536) e ∙ h)
 
-landed-by : (x by : Fixed) (r : ℕ) → lowBits 16 (by .bits) ≡ r → fractF (addF x by) ≡ ZERO → (lowBits 16 (x .bits) + r) % 65536 ≡ 0
-landed-by x by r e f = ap (λ (n : ℕ). (lowBits 16 (x .bits) + n) % 65536) (sym e) ∙ sym (low-moved x by) ∙ pixel-low (addF x by) f
+landed-by : (x by : Fixed) (r : ℕ) → lowBits 16 (by .bits) ≡ r → fractF (addF x by) ≡ ZERO →
+    (lowBits 16 (x .bits) + r) % 65536 ≡ 0
+landed-by x by r e f =
+    ap (λ (n : ℕ). (lowBits 16 (x .bits) + n) % 65536) (sym e) ∙ sym (low-moved x by) ∙ pixel-low (addF x by) f
 
 pixel-few : (l : ℕ) → toPixel l < 65536
 unfolding toPixel
@@ -188,8 +196,10 @@ module _ (low high : Fixed) where
       bits = up-low (other .bits) p (omega (arith, short, pixel-few a))
 
       go : Lands low high other → ⊥
-      go (lower e) = no-rise a (up (other .bits)) a-few (omega (arith, short)) (landed-by low other (up (other .bits)) bits e)
-      go (upper e) = no-rise b (up (other .bits)) b-few (omega (arith, short)) (landed-by high other (up (other .bits)) bits e)
+      go (lower e) =
+          no-rise a (up (other .bits)) a-few (omega (arith, short)) (landed-by low other (up (other .bits)) bits e)
+      go (upper e) =
+          no-rise b (up (other .bits)) b-few (omega (arith, short)) (landed-by high other (up (other .bits)) bits e)
 
   -- ---- down
   abbrev downward : Fixed
@@ -200,7 +210,8 @@ module _ (low high : Fixed) where
 
   downward-low : lowBits 16 (downward .bits) ≡ toPixel (min a b)
   downward-low =
-      down-low (downward .bits) (omega (ints, downward-dn)) (omega (arith, downward-dn .1, a-few)) ∙ ap toPixel (downward-dn .1)
+      down-low (downward .bits) (omega (ints, downward-dn)) (omega (arith, downward-dn .1, a-few)) ∙
+      ap toPixel (downward-dn .1)
 
   down-lands : (t : Bool) → leb a b ≡ t → Lands low high downward
   down-lands true e =
@@ -220,8 +231,12 @@ module _ (low high : Fixed) where
       bits = down-low (other .bits) p (omega (arith, short, a-few))
 
       go : Lands low high other → ⊥
-      go (lower e) = no-fall a (dn (other .bits)) a-few (omega (arith, short)) (landed-by low other (toPixel (dn (other .bits))) bits e)
-      go (upper e) = no-fall b (dn (other .bits)) b-few (omega (arith, short)) (landed-by high other (toPixel (dn (other .bits))) bits e)
+      go (lower e) =
+          no-fall a (dn (other .bits)) a-few (omega (arith, short))
+          (landed-by low other (toPixel (dn (other .bits))) bits e)
+      go (upper e) =
+          no-fall b (dn (other .bits)) b-few (omega (arith, short))
+          (landed-by high other (toPixel (dn (other .bits))) bits e)
 
   -- ---- the moves that the definition has
   up-is : movesOf low high .up ≡ upward
@@ -233,7 +248,9 @@ module _ (low high : Fixed) where
   down-is = rw (below-bits a a-few, below-bits b b-few) (max-bits a b)
 
   pub smallest-up : SmallestUp low high (movesOf low high .up)
-  smallest-up = rw up-is (record { up = omega ints; lands = up-lands (leb (toPixel a) (toPixel b)) refl; least = up-least })
+  smallest-up =
+      rw up-is (record { up = omega ints; lands = up-lands (leb (toPixel a) (toPixel b)) refl; least = up-least })
 
   pub smallest-down : SmallestDown low high (movesOf low high .down)
-  smallest-down = rw down-is (record { down = omega (ints, downward-dn); lands = down-lands (leb a b) refl; least = down-least })
+  smallest-down =
+      rw down-is (record { down = omega (ints, downward-dn); lands = down-lands (leb a b) refl; least = down-least })

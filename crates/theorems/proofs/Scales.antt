@@ -1,5 +1,6 @@
--- The first pass of adjusting sets the scales of `Scaled`, and the second keeps them. Edges are put back one at a time, from below: before edge i is, each edge k
--- with k + 1 < i has the scale of its line to edge k + 1, and those from i − 1 on have the scales that they had. Assumes nothing.
+-- The first pass of adjusting sets the scales of `Scaled`, and the second keeps them. Edges are put
+-- back one at a time, from below: before edge i is, each edge k with k + 1 < i has the scale of its
+-- line to edge k + 1, and those from i − 1 on have the scales that they had. Assumes nothing.
 use mathlib.Core.Path.{_≡_, refl, sym, ap, subst, _∙_}
 use mathlib.Core.Bool.{Bool, true, false, cond}
 use mathlib.Core.List.{List, [], _∷_, map}
@@ -18,7 +19,8 @@ use Rattle.hintmap.specs.declared.map.HintMap.{HintMap}
 use Rattle.hintmap.specs.Map.{view}
 use Rattle.hintmap.proofs.WholeStems.{Good}
 use Rattle.adjust.specs.declared.Neighbour.{Neighbour}
-use Rattle.adjust.specs.Adjust.{edgeAt, aboveOf, belowOf, movedHint, settleBy, settleOf, atScale, slope, rescaledBy, rescaledHint, withEdge}
+use Rattle.adjust.specs.Adjust.{edgeAt, aboveOf, belowOf, movedHint, settleBy, settleOf, atScale, slope, rescaledBy}
+use Rattle.adjust.specs.Adjust.{rescaledHint, withEdge}
 use Rattle.adjust.specs.Pass.{Pass, nextPlace, upperOf, putBack, turnOf, passFrom, firstPass}
 use Rattle.adjust.specs.Second.{startOf, adjustOf}
 use Rattle.adjust.proofs.Keeps.{scales, first-kept, adjust-kept, adjust-scales}
@@ -31,7 +33,8 @@ use Rattle.theorems.specs.Fitting.{Scaled}
 abbrev bare : Hint → Hint
 bare e = atScale e ZERO
 
--- the scale of edge b below edge a: the slope of their line, or s where their character heights do not differ
+-- the scale of edge b below edge a: the slope of their line, or s where their character heights do
+-- not differ
 abbrev lineScale : Fixed → Hint → Hint → Fixed
 lineScale s b a = cond (sameF (a .«cs_coord») (b .«cs_coord»)) s (slope b a)
 
@@ -48,7 +51,8 @@ line-same : (s : Fixed) (b a : Hint) → b .«cs_coord» ≡ a .«cs_coord» →
 line-same s b a e = ap (λ (t : Bool). cond t s (slope b a)) (is-same (a .«cs_coord») (b .«cs_coord») (sym e))
 
 -- it is the same for edges that differ in their scales only
-line-bare : {s t : Fixed} (b c a d : Hint) → s ≡ t → bare b ≡ bare c → bare a ≡ bare d → lineScale s b a ≡ lineScale t c d
+line-bare : {s t : Fixed} (b c a d : Hint) → s ≡ t → bare b ≡ bare c → bare a ≡ bare d →
+    lineScale s b a ≡ lineScale t c d
 line-bare b c a d p q r = λ i. lineScale (p i) (q i) (r i)
 
 -- an edge before another gets this scale
@@ -74,7 +78,8 @@ rescaled-bare b a = go (sameF (a .«cs_coord») (b .«cs_coord»))
 abbrev putNext : HintMap → ℕ → Hint → HintMap
 putNext n i e = withEdge (withEdge n (i - 1) (rescaledHint (edgeAt n (i - 1)) e)) i e
 
--- edge k of n has the scale of its line to edge k + 1, or where there is none the scale that it has in m
+-- edge k of n has the scale of its line to edge k + 1, or where there is none the scale that it has
+-- in m
 abbrev OnLine : HintMap → HintMap → ℕ → Type 0
 OnLine m n k = edgeAt n k .scale ≡ lineScale (edgeAt m k .scale) (edgeAt n k) (edgeAt n (k + 1))
 
@@ -89,7 +94,9 @@ record Along (m n : HintMap) (i : ℕ) : Type 0 where
 module _ (m n : HintMap) (i : ℕ) (e : Hint) (h : Along m n i) (l : i < m .len) where
   -- the edge is there
   put-at : edgeAt (putNext n i e) i ≡ e
-  put-at = getD-set-same (set (n .edges) (i - 1) (rescaledHint (edgeAt n (i - 1)) e)) i e noHint (rw length-set (omega (arith, h .fits)))
+  put-at =
+      getD-set-same (set (n .edges) (i - 1) (rescaledHint (edgeAt n (i - 1)) e)) i e noHint
+      (rw length-set (omega (arith, h .fits)))
 
   -- the edge before it has its line
   put-before : (k : ℕ) → k + 1 ≡ i → edgeAt (putNext n i e) k ≡ rescaledHint (edgeAt n k) e
@@ -129,7 +136,8 @@ module _ (m n : HintMap) (i : ℕ) (e : Hint) (h : Along m n i) (l : i < m .len)
           refl (sym (put-bare k (omega arith))) (sym (put-bare (k + 1) (omega arith)))
 
   -- and the others keep their scales
-  put-ahead : e .scale ≡ edgeAt n i .scale → (k : ℕ) → i + 1 ≤ k + 1 → edgeAt (putNext n i e) k .scale ≡ edgeAt m k .scale
+  put-ahead : e .scale ≡ edgeAt n i .scale → (k : ℕ) → i + 1 ≤ k + 1 →
+      edgeAt (putNext n i e) k .scale ≡ edgeAt m k .scale
   put-ahead s k p = go (eqb k i) refl
     where
       go : (t : Bool) → eqb k i ≡ t → edgeAt (putNext n i e) k .scale ≡ edgeAt m k .scale
@@ -153,7 +161,8 @@ put-one : (n : HintMap) (i : ℕ) (e : Hint) → putBack n i i e e ≡ putNext n
 put-one n i e = rw set-set
 
 -- the two of a pair
-put-two : (n : HintMap) (i : ℕ) (low high : Hint) → i < length (n .edges) → putBack n i (i + 1) low high ≡ putNext (putNext n i low) (i + 1) high
+put-two : (n : HintMap) (i : ℕ) (low high : Hint) → i < length (n .edges) →
+    putBack n i (i + 1) low high ≡ putNext (putNext n i low) (i + 1) high
 put-two n i low high l =
     let z : i + 1 - 1 ≡ i = omega arith in
     let s : i < length (set (n .edges) (i - 1) (rescaledHint (edgeAt n (i - 1)) low)) = rw length-set l in
@@ -161,13 +170,15 @@ put-two n i low high l =
 
 -- settling sets no scale
 settle-scale : (b : Bool) (below : Neighbour) (low high : Hint) (above : Neighbour) →
-    (settleBy b below low high above .low .scale ≡ low .scale) × (settleBy b below low high above .high .scale ≡ high .scale)
+    (settleBy b below low high above .low .scale ≡ low .scale) ×
+    (settleBy b below low high above .high .scale ≡ high .scale)
 unfolding movedHint
 settle-scale true below low high above = (refl, refl)
 settle-scale false below low high above = (refl, refl)
 
 -- and the one edge of a ghost stays one
-settle-one : (b : Bool) (below : Neighbour) (e : Hint) (above : Neighbour) → settleBy b below e e above .low ≡ settleBy b below e e above .high
+settle-one : (b : Bool) (below : Neighbour) (e : Hint) (above : Neighbour) →
+    settleBy b below e e above .low ≡ settleBy b below e e above .high
 settle-one true below e above = refl
 settle-one false below e above = refl
 
@@ -215,7 +226,8 @@ along-ends m n i h l =
     subst (Along m n) z h
 
 -- from any of its turns the pass puts back every edge
-pass-along : (m : HintMap) (n i : ℕ) (p : Pass) → Along m (p .map) i → m .len ≤ n + i → Along m (passFrom n i p .map) (m .len)
+pass-along : (m : HintMap) (n i : ℕ) (p : Pass) → Along m (p .map) i → m .len ≤ n + i →
+    Along m (passFrom n i p .map) (m .len)
 unfolding passFrom
 pass-along m zero i p h l = along-ends m (p .map) i h (omega arith)
 pass-along m (suc n) i p h l = go (ltb i (p .map .len)) refl (pass-along m n j next)
@@ -227,7 +239,8 @@ pass-along m (suc n) i p h l = go (ltb i (p .map .len)) refl (pass-along m n j n
     next = turnOf i (upperOf (p .map) i) p
 
     go : (b : Bool) → ltb i (p .map .len) ≡ b →
-        (Along m (next .map) j → m .len ≤ n + j → Along m (passFrom n j next .map) (m .len)) → Along m (cond b (passFrom n j next) p .map) (m .len)
+        (Along m (next .map) j → m .len ≤ n + j → Along m (passFrom n j next .map) (m .len)) →
+        Along m (cond b (passFrom n j next) p .map) (m .len)
     go true e ih =
         let q = ltb-true i (p .map .len) e in
         ih (turn-along m i p h (omega (arith, h .len))) (omega (arith, upper-is (p .map) i q .0))
@@ -258,7 +271,9 @@ edge-at n i l = getD-take (n .len) (n .edges) i noHint l
 module _ (m n : HintMap) (h : Along m n (m .len)) where
   -- all edges but the last have the scales of their lines
   all-lines : (i : ℕ) → i + 1 < m .len → edge n i .scale ≡ lineScale (edge m i .scale) (edge n i) (edge n (i + 1))
-  all-lines i l = rw (edge-at n i (omega (arith, h .len)), edge-at n (i + 1) (omega (arith, h .len)), edge-at m i (omega arith)) (h .passed i l)
+  all-lines i l =
+      rw (edge-at n i (omega (arith, h .len)), edge-at n (i + 1) (omega (arith, h .len)), edge-at m i (omega arith))
+      (h .passed i l)
 
   -- the last keeps its scale
   last-stays : (i : ℕ) → i + 1 ≡ m .len → edge n i .scale ≡ edge m i .scale

@@ -1,4 +1,5 @@
--- A map in order, with its stems whole, is sound; and every drawing that there can be has such maps, of its own scale. Assumes nothing.
+-- A map in order, with its stems whole, is sound; and every drawing that there can be has such
+-- maps, of its own scale. Assumes nothing.
 use mathlib.Core.Path.{_≡_, refl, sym, ap, subst, _∙_}
 use mathlib.Core.Bool.{Bool, true, false, _&&_, not}
 use Prim.Native.Nat.{ℕ, zero, suc, _+_, _<_}
@@ -26,13 +27,16 @@ use Rattle.hintmap.proofs.Words.{stems-ascend, bottom-top, shared}
 use Rattle.hintmap.proofs.Mapping.{Mapped, mapped, Serves as ServesList, below, above, serves}
 use Rattle.build.proofs.Sound.{initial-good, built-good, initial-scale, built-scale}
 use Rattle.hints.specs.declared.hints.Hints.{Hints}
-use Rattle.hints.specs.Hints.{newHints, stemBy, withStem, maskBy, withMask, initialBy, withInitial, countered, readyBy, readyOf}
+use Rattle.hints.specs.Hints.{newHints, stemBy, withStem, maskBy, withMask, initialBy, withInitial, countered, readyBy}
+use Rattle.hints.specs.Hints.{readyOf}
 use Rattle.hints.specs.Path.{hasPoint}
 use Rattle.hints.specs.declared.drawing.Drawing.{Drawing}
-use Rattle.hints.specs.Calls.{Call, stem, hintMask, counterMask, clear, close, draw, readyFor, hintsOf, roomBy, wordsFor}
+use Rattle.hints.specs.Calls.{Call, stem, hintMask, counterMask, clear, close, draw, readyFor, hintsOf, roomBy}
+use Rattle.hints.specs.Calls.{wordsFor}
 use Rattle.hints.specs.Calls.{newDrawing}
 use Rattle.drawing.specs.Open.{countsFit, openBy, openOf}
-use Rattle.theorems.specs.Reached.{Reached, opened, called, edge, height, OneStem, LastBelow, Carrier, byEdge, byFirst, byScale, Serves, last, first, none, Carried, Sound}
+use Rattle.theorems.specs.Reached.{Reached, opened, called, edge, height, OneStem, LastBelow, Carrier, byEdge}
+use Rattle.theorems.specs.Reached.{byFirst, byScale, Serves, last, first, none, Carried, Sound}
 
 -- ---- one carrier serves a height, and no other
 module _ (m : HintMap) (h : Fixed) where
@@ -91,14 +95,19 @@ module _ (m : HintMap) (g : Good m) where
       over a j l = a j (omega (arith, all))
 
       none-below : (n : ℕ) → m .len ≡ n → Above (view m) h → Carried m h
-      none-below zero e a = record { by = byScale; serves = none e; only = λ x s. only-one m h (none e) s; device = c .none (all ∙ e) }
+      none-below zero e a =
+          record { by = byScale; serves = none e; only = λ x s. only-one m h (none e) s; device = c .none (all ∙ e) }
       none-below (suc n) e a =
           let f : Serves m h byFirst = first (omega arith) (over a) in
           record { by = byFirst; serves = f; only = λ x s. only-one m h f s; device = c .first (omega (arith, all)) a }
 
       go : ServesList (view m) h → Carried m h
       go (below k l) =
-          let b : LastBelow m h k = record { there = omega (arith, all, l .there); below = l .below; last = λ j p q. l .last j p (omega (arith, all)) } in
+          let b : LastBelow m h k = record {
+            there = omega (arith, all, l .there);
+            below = l .below;
+            last = λ j p q. l .last j p (omega (arith, all));
+          } in
           record { by = byEdge k; serves = last k b; only = λ x s. only-one m h (last k b) s; device = c .last k l }
       go (above a) = none-below (m .len) refl a
 
@@ -126,7 +135,13 @@ module _ (st : HintState) (h : Hints) (f : Fine st h) where
   -- the initial map, which is made if there is none, and the current map, which that leaves
   initial-by : (b : Bool) → Fine st (initialBy b st h)
   initial-by true = f
-  initial-by false = record { initial = initial-good st (h .stems); map = f .map; initialScale = initial-scale st (h .stems); scale = f .scale }
+  initial-by false =
+      record {
+        initial = initial-good st (h .stems);
+        map = f .map;
+        initialScale = initial-scale st (h .stems);
+        scale = f .scale;
+      }
 
   fine-stem : (min max : Fixed) → Fine st (withStem min max h)
   unfolding withStem
@@ -142,7 +157,13 @@ module _ (st : HintState) (h : Hints) (f : Fine st h) where
     where
       go : (b : Bool) → Fine st (maskBy b m h)
       go true = f
-      go false = record { initial = f .initial; map = invalid-good (h .map) (f .map); initialScale = f .initialScale; scale = f .scale }
+      go false =
+          record {
+            initial = f .initial;
+            map = invalid-good (h .map) (f .map);
+            initialScale = f .initialScale;
+            scale = f .scale;
+          }
 
   fine-counter : (m : HintMask) → Fine st (countered st m h)
   unfolding countered withInitial
@@ -159,7 +180,12 @@ module _ (st : HintState) (h : Hints) (f : Fine st h) where
       go false =
           let j = initialBy (h .initial .«is_valid») st h in
           let i = initial-by (h .initial .«is_valid») in
-          record { initial = i .initial; map = built-good st (j .mask) (j .initial) (j .stems); initialScale = i .initialScale; scale = built-scale st (j .mask) (j .initial) (j .stems) }
+          record {
+            initial = i .initial;
+            map = built-good st (j .mask) (j .initial) (j .stems);
+            initialScale = i .initialScale;
+            scale = built-scale st (j .mask) (j .initial) (j .stems);
+          }
 
   fine-path : (points : Bool) → Fine st (readyFor points st h)
   fine-path true = fine-ready
@@ -175,7 +201,8 @@ fine-call st h f close = f
 fine-call st h f (draw p) = fine-path st h f (hasPoint p)
 
 -- opening gives a new drawing of the scale of its zones
-pub opened-by : (a b : Bool) (p : HintParams) (s : Fixed) → openBy a b p s .drawing ≡ newDrawing (openBy a b p s .state .scale)
+pub opened-by : (a b : Bool) (p : HintParams) (s : Fixed) →
+    openBy a b p s .drawing ≡ newDrawing (openBy a b p s .state .scale)
 unfolding stateOf
 opened-by true b p s = refl
 opened-by false false p s = refl
@@ -195,5 +222,6 @@ fine-room true st d c f = fine-call st (d .hints) f c
 fine-room false st d c f = f
 
 pub fine : {st : HintState} {d : Drawing} → Reached st d → Fine st (d .hints)
-fine (opened p s) = subst (λ (d : Drawing). Fine (openOf p s .state) (d .hints)) (sym (opened-new p s)) (fine-new (openOf p s .state))
+fine (opened p s) =
+    subst (λ (d : Drawing). Fine (openOf p s .state) (d .hints)) (sym (opened-new p s)) (fine-new (openOf p s .state))
 fine (called {st} {d} r c room) = fine-room (leb (length (wordsFor st d c)) room) st d c (fine r)

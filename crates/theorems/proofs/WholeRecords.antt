@@ -1,4 +1,5 @@
--- The words of every call, and so those of a run, are whole records, and the count that a result has is theirs. Assumes nothing.
+-- The words of every call, and so those of a run, are whole records, and the count that a result
+-- has is theirs. Assumes nothing.
 use mathlib.Core.Path.{_≡_, refl, sym, ap, subst, _∙_}
 use mathlib.Core.Bool.{Bool, true, false, cond}
 use mathlib.Core.List.{List, [], _∷_, _++_, append-assoc}
@@ -15,7 +16,8 @@ use Rattle.pen.specs.declared.strokes.Waiting.{Waiting}
 use Rattle.pen.specs.declared.strokes.Waiting.the-variants.{Line as Waits, Absent as NoLine}
 use Rattle.pen.specs.declared.strokes.Pen.{Pen}
 use Rattle.pen.specs.Records.{emitted, wordsOf}
-use Rattle.pen.specs.Strokes.{samePoint, pointWords, closeBy, closingWords, waitingWords, flushWords, moveOf, lineOf, curveOf, finishOf}
+use Rattle.pen.specs.Strokes.{samePoint, pointWords, closeBy, closingWords, waitingWords, flushWords, moveOf, lineOf}
+use Rattle.pen.specs.Strokes.{curveOf, finishOf}
 use Rattle.pen.proofs.Words.{words-emitted}
 use Rattle.pen.specs.declared.strokes.Path.{Path}
 use Rattle.pen.specs.declared.strokes.Path.the-variants.{Move, Line, Curve, Finish}
@@ -29,14 +31,16 @@ use Rattle.run.specs.Run.{Asked, stepsOf}
 use Rattle.script.proofs.Counting.{enough}
 use Rattle.script.specs.Script.{zonesOf, callsIn, stepsIn}
 use Rattle.theorems.specs.Demand1.{wordsAlong}
-use Rattle.theorems.specs.WholeRecords.{Record, WholeRecords, move, line, curve, close as closes, finish, none, first}
+use Rattle.theorems.specs.WholeRecords.{Record, WholeRecords, move, line, curve, close as closes, finish, none}
+use Rattle.theorems.specs.WholeRecords.{first}
 
 -- ---- so many records are as many as are counted
 one-more : {r : List ℤ} → Record r → (ws : List ℤ) → recordsIn (r ++ ws) ≡ suc (recordsIn ws)
 unfolding recordsIn recordsBy sizeOf
 one-more (move x y) ws = ap suc (enough (suc (suc (length ws))) (length ws) ws (omega arith) (omega arith))
 one-more (line x y) ws = ap suc (enough (suc (suc (length ws))) (length ws) ws (omega arith) (omega arith))
-one-more (curve a b c d x y) ws = ap suc (enough (suc (suc (suc (suc (suc (suc (length ws))))))) (length ws) ws (omega arith) (omega arith))
+one-more (curve a b c d x y) ws =
+    ap suc (enough (suc (suc (suc (suc (suc (suc (length ws))))))) (length ws) ws (omega arith) (omega arith))
 one-more closes ws = refl
 one-more finish ws = refl
 

@@ -1,4 +1,5 @@
--- Demand 1, as a reader has it: what each row of 01's table says, and what stands in every output word afterwards. Laid beside that table, row by row.
+-- Demand 1, as a reader has it: what each row of 01's table says, and what stands in every output
+-- word afterwards. Laid beside that table, row by row.
 use mathlib.Core.Path.{_≡_}
 use mathlib.Core.Bool.{Bool, true}
 use mathlib.Core.List.{List, [], _∷_, _++_}
@@ -8,7 +9,8 @@ use lib.ListN.{length, take, drop}
 use lib.Signed.{_≤ℤ_, _<ℤ_}
 use Rattle.pen.specs.Records.{written}
 use Rattle.words.specs.declared.answer.Answer.{Answer}
-use Rattle.words.specs.declared.answer.Answer.the-variants.{Ok, BadScript, BadScale, BadBlues, BadCommand, BadMask, NoRoom}
+use Rattle.words.specs.declared.answer.Answer.the-variants.{Ok, BadScript, BadScale, BadBlues, BadCommand, BadMask}
+use Rattle.words.specs.declared.answer.Answer.the-variants.{NoRoom}
 use Rattle.words.specs.Words.{rawAt, wordAt}
 use Rattle.words.specs.Rows.{First}
 use Rattle.words.specs.Answers.{firstOf}
@@ -40,7 +42,8 @@ abbrev pub Checked : List ℕ → Type 0
 Checked s = firstOf (checkRows s) ≡ Ok
 
 -- ---- the rows
--- 1: a test of the header holds, the first that does giving the place; or, after the counts, word 3 is not 8 + 2·pairs
+-- 1: a test of the header holds, the first that does giving the place; or, after the counts, word 3
+-- is not 8 + 2·pairs
 pub data BadScriptWhen (s : List ℕ) (p : ℕ) : Type 0 where
   header : First Ok (headerRows s) (BadScript p) → BadScriptWhen s p
   pairs : HeaderFine s → ScaleFine s → CountsFine s → (PairsFine s → ⊥) → p ≡ 3 → BadScriptWhen s p
@@ -88,7 +91,8 @@ pub record Overflow (s : List ℕ) (room p : ℕ) (before : List Step) : Type 0 
 -- 6: the output is under 4 words, with word 4's figure; or records do not fit behind the header
 pub data NoRoomWhen (s : List ℕ) (out : List ℤ) (p : ℕ) : Type 0 where
   small : Checked s → length out < 4 → p ≡ rawAt s 4 → NoRoomWhen s out p
-  records : Checked s → 4 ≤ length out → (before : List Step) → Overflow s (length out - 4) p before → NoRoomWhen s out p
+  records : Checked s → 4 ≤ length out → (before : List Step) → Overflow s (length out - 4) p before →
+      NoRoomWhen s out p
 
 -- 0: otherwise
 pub record OkWhen (s : List ℕ) (out : List ℤ) : Type 0 where
@@ -105,8 +109,9 @@ When s out (BadMask p) = FaultWhen s (hasBadMask (rawAt s 7)) p
 When s out (NoRoom p) = NoRoomWhen s out p
 
 -- ---- the words
--- on OK the header and the records, and the words past them as lent; refusals 1 to 5 change no word; nor does an output of under 4 words,
--- and NO_ROOM in a run keeps earlier commands' records from word 4, every other word as lent
+-- on OK the header and the records, and the words past them as lent; refusals 1 to 5 change no
+-- word; nor does an output of under 4 words, and NO_ROOM in a run keeps earlier commands' records
+-- from word 4, every other word as lent
 abbrev pub Left : (s : List ℕ) (out : List ℤ) (a : Answer) → When s out a → List ℤ
 Left s out Ok w = written (resultWords (wordsAlong (stepsIn s))) out
 Left s out (BadScript p) w = out

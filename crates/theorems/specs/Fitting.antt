@@ -1,4 +1,5 @@
--- Laws in 01's words of what is defined by following a loop ("The map", Adjust and Build): the smallest moves, the scales after the first pass, and the baseline.
+-- Laws in 01's words of what is defined by following a loop ("The map", Adjust and Build): the
+-- smallest moves, the scales after the first pass, and the baseline.
 use mathlib.Core.Path.{_≡_}
 use mathlib.Core.Bool.{false}
 use mathlib.Core.Logic.{_⊎_}
@@ -35,9 +36,11 @@ pub record SmallestDown (low high by : Fixed) : Type 0 where
 pub record Scaled (before after : HintMap) : Type 0 where
   -- device difference by character difference to the next edge, where these differ
   pub differ : (i : ℕ) → i + 1 < before .len → (height after i ≡ height after (i + 1) → ⊥) →
-      edge after i .scale ≡ divF (subF (edge after (i + 1) .«ds_coord») (edge after i .«ds_coord»)) (subF (height after (i + 1)) (height after i))
+      edge after i .scale ≡ divF (subF (edge after (i + 1) .«ds_coord») (edge after i .«ds_coord»))
+      (subF (height after (i + 1)) (height after i))
   -- where they do not, and at the last edge, the scale stays
-  pub same : (i : ℕ) → i + 1 < before .len → height after i ≡ height after (i + 1) → edge after i .scale ≡ edge before i .scale
+  pub same : (i : ℕ) → i + 1 < before .len → height after i ≡ height after (i + 1) →
+      edge after i .scale ≡ edge before i .scale
   pub last : (i : ℕ) → i + 1 ≡ before .len → edge after i .scale ≡ edge before i .scale
 
 -- ---- the baseline of an initial map

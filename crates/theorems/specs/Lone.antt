@@ -1,4 +1,5 @@
--- Lone calls and opening without a script (01, the rows after its table): how each ends, with 01's number, words and place.
+-- Lone calls and opening without a script (01, the rows after its table): how each ends, with 01's
+-- number, words and place.
 use mathlib.Core.Path.{_≡_}
 use mathlib.Core.Bool.{true, false}
 use mathlib.Core.List.{List}
@@ -31,13 +32,14 @@ pub record Done (st : HintState) (d : Drawing) (c : Call) (out : List ℤ) (said
   pub memory : left ≡ written (wordsFor st d c) out
 
 -- one that does not changes neither drawing nor buffer
-pub record Refused (st : HintState) (d : Drawing) (c : Call) (out : List ℤ) (said : After) (left : List ℤ) : Type 0 where
-  pub short : length out < length (wordsFor st d c)
-  pub number : callNumber (said .answer) ≡ 6
-  pub words : callWords (said .answer) ≡ 0
-  pub place : callPlace (said .answer) ≡ 0
-  pub drawing : said .drawing ≡ d
-  pub memory : left ≡ out
+pub record Refused (st : HintState) (d : Drawing) (c : Call) (out : List ℤ) (said : After) (left : List ℤ) : Type 0
+  where
+    pub short : length out < length (wordsFor st d c)
+    pub number : callNumber (said .answer) ≡ 6
+    pub words : callWords (said .answer) ≡ 0
+    pub place : callPlace (said .answer) ≡ 0
+    pub drawing : said .drawing ≡ d
+    pub memory : left ≡ out
 
 pub data CallEnds (st : HintState) (d : Drawing) (c : Call) (out : List ℤ) (said : After) (left : List ℤ) : Type 0 where
   done : Done st d c out said left → CallEnds st d c out said left

@@ -1,5 +1,5 @@
--- Demand 3, as a reader has it: the drawings that there can be, what each of their maps satisfies, and where their maps and points come from. Heights are
--- compared as the bits of 16.16 numbers.
+-- Demand 3, as a reader has it: the drawings that there can be, what each of their maps satisfies,
+-- and where their maps and points come from. Heights are compared as the bits of 16.16 numbers.
 use mathlib.Core.Path.{_≡_}
 use mathlib.Core.Bool.{true, false}
 use mathlib.Core.List.{_∷_, _++_}
@@ -68,13 +68,15 @@ pub record LastBelow (m : HintMap) (h : Fixed) (k : ℕ) : Type 0 where
   pub below : height m k .bits ≤ℤ h .bits
   pub last : (j : ℕ) → k < j → j < m .len → h .bits <ℤ height m j .bits
 
--- what can carry a height: an edge with its own scale, the first edge with the drawing's, or the plain scale
+-- what can carry a height: an edge with its own scale, the first edge with the drawing's, or the
+-- plain scale
 pub data Carrier : Type 0 where
   byEdge : ℕ → Carrier
   byFirst : Carrier
   byScale : Carrier
 
--- and when it does: the last edge at or below the height; the first edge, if all are above; the scale, if there are none
+-- and when it does: the last edge at or below the height; the first edge, if all are above; the
+-- scale, if there are none
 pub data Serves (m : HintMap) (h : Fixed) : Carrier → Type 0 where
   last : (k : ℕ) → LastBelow m h k → Serves m h (byEdge k)
   first : 0 < m .len → ((j : ℕ) → j < m .len → h .bits <ℤ height m j .bits) → Serves m h byFirst
@@ -113,12 +115,14 @@ pub record InitialMade (Was : Drawing → Type 0) (st : HintState) (d : Drawing)
   pub invalid : then .hints .initial .«is_valid» ≡ false
   pub made : d .hints .initial ≡ initialOf st (then .hints .stems)
 
--- a valid current map is the build of mask, stems, zones and initial map as they were when it was made. Mask and initial map are still those of the drawing
+-- a valid current map is the build of mask, stems, zones and initial map as they were when it was
+-- made. Mask and initial map are still those of the drawing
 pub record MapMade (Was : Drawing → Type 0) (st : HintState) (d : Drawing) : Type 0 where
   pub then : Drawing
   pub was : Was then
   pub invalid : then .hints .map .«is_valid» ≡ false
-  pub made : d .hints .map ≡ builtOf st (then .hints .mask) (withInitial st (then .hints) .initial) (then .hints .stems) .map
+  pub made : d .hints .map ≡
+      builtOf st (then .hints .mask) (withInitial st (then .hints) .initial) (then .hints .stems) .map
   pub mask : d .hints .mask ≡ then .hints .mask
   pub initial : d .hints .initial ≡ withInitial st (then .hints) .initial
 
@@ -131,18 +135,25 @@ currentMap st d = readyOf st (d .hints) .map
 abbrev pub counterMap : HintState → Drawing → HintMask → HintMap
 counterMap st d m = builtFrom st m (withInitial st (d .hints)) .map
 
--- a point on the device: x by the scale, y as the current map carries it, the low 10 bits of both cleared
+-- a point on the device: x by the scale, y as the current map carries it, the low 10 bits of both
+-- cleared
 abbrev pub carriedPoint : HintState → Drawing → Point → Point
 carriedPoint st d p =
-    record { x = truncF (mulF (p .x) (st .scale)); y = truncF (mapOf (view (currentMap st d)) (currentMap st d .scale) (p .y)) }
+    record {
+      x = truncF (mulF (p .x) (st .scale));
+      y = truncF (mapOf (view (currentMap st d)) (currentMap st d .scale) (p .y));
+    }
 
 -- the words of a move, a line and a curve. A line waits with its point
 pub record Pointed (st : HintState) (d : Drawing) : Type 0 where
-  pub move : (p : Point) → wordsFor st d (draw (Move p)) ≡ closingWords (d .pen) ++ pos 1 ∷ pointWords (carriedPoint st d p)
+  pub move : (p : Point) → wordsFor st d (draw (Move p)) ≡
+      closingWords (d .pen) ++ pos 1 ∷ pointWords (carriedPoint st d p)
   pub line : (p : Point) → wordsFor st d (draw (Line p)) ≡ flushWords (d .pen)
   pub waits : (p : Point) → nextOf st d (draw (Line p)) .pen .waiting ≡ Waits p (carriedPoint st d p)
   pub curve : (p q r : Point) →
-      wordsFor st d (draw (Curve p q r)) ≡ flushWords (d .pen) ++ (pos 3 ∷ pointWords (carriedPoint st d p) ++ pointWords (carriedPoint st d q) ++ pointWords (carriedPoint st d r))
+      wordsFor st d (draw (Curve p q r)) ≡
+      flushWords (d .pen) ++ (pos 3 ∷ pointWords (carriedPoint st d p) ++ pointWords (carriedPoint st d q) ++
+      pointWords (carriedPoint st d r))
 
 -- the point of a line that waits was carried at the line's own call
 pub record LineMade (Was : Drawing → Type 0) (st : HintState) (at device : Point) : Type 0 where

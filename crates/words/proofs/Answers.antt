@@ -1,4 +1,5 @@
--- Laws of a script's answers: Ok is the one that is numbered 0, and does not refuse. Assumes nothing.
+-- Laws of a script's answers: Ok is the one that is numbered 0, and does not refuse. Assumes
+-- nothing.
 use mathlib.Core.Path.{_≡_, refl, sym, ap, _∙_}
 use mathlib.Core.Bool.{Bool, true, false}
 use mathlib.Core.List.{List, _++_}
@@ -7,7 +8,8 @@ use native.Mathlib.Omega.{arith}
 use lib.Dec.{eqb}
 use borrow.Author.Tests.{eqb-true, eqb-false, not-true, not-false}
 use Rattle.words.specs.declared.answer.Answer.{Answer}
-use Rattle.words.specs.declared.answer.Answer.the-variants.{Ok, BadScript, BadScale, BadBlues, BadCommand, BadMask, NoRoom}
+use Rattle.words.specs.declared.answer.Answer.the-variants.{Ok, BadScript, BadScale, BadBlues, BadCommand}
+use Rattle.words.specs.declared.answer.Answer.the-variants.{BadMask, NoRoom}
 use Rattle.words.specs.Rows.{Row}
 use Rattle.words.specs.Answers.{numberOf, placeOf, Says, refuses, firstOf}
 use Rattle.words.proofs.Rows.{Refusing, found, onward}
@@ -39,7 +41,8 @@ pub is-refused : (a : Answer) → refuses a ≡ true → 0 < numberOf a
 is-refused a e = omega (arith, eqb-false (numberOf a) 0 (not-true (eqb (numberOf a) 0) e))
 
 -- where two lists give Ok, both do
-pub both-ok : (rs qs : List (Row Answer)) → Refusing Ok rs → firstOf (rs ++ qs) ≡ Ok → (firstOf rs ≡ Ok) × (firstOf qs ≡ Ok)
+pub both-ok : (rs qs : List (Row Answer)) → Refusing Ok rs → firstOf (rs ++ qs) ≡ Ok →
+    (firstOf rs ≡ Ok) × (firstOf qs ≡ Ok)
 both-ok rs qs h e =
     let o = by (refuses (firstOf rs)) refl in
     (o, sym (onward Ok rs qs h o) ∙ e)
@@ -69,7 +72,9 @@ told (NoRoom p) = refl
 
 -- two answers that say the same are one
 pub says-is : {a said : Answer} → Says a said → said ≡ a
-says-is {a} {said} h = sym (told said) ∙ ap (λ (n : ℕ). answerBy n (placeOf said)) (h .number) ∙ ap (answerBy (numberOf a)) (h .place) ∙ told a
+says-is {a} {said} h =
+    sym (told said) ∙ ap (λ (n : ℕ). answerBy n (placeOf said)) (h .number) ∙ ap (answerBy (numberOf a)) (h .place) ∙
+    told a
 
 pub says : {a said : Answer} → said ≡ a → Says a said
 says e = record { number = ap numberOf e; place = ap placeOf e }

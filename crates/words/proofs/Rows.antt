@@ -1,4 +1,5 @@
--- Laws of a list of tests: the first that holds gives the answer, whatever the answers are. Assumes nothing.
+-- Laws of a list of tests: the first that holds gives the answer, whatever the answers are. Assumes
+-- nothing.
 use mathlib.Core.Path.{_≡_, refl, sym, ap, _∙_}
 use mathlib.Core.Bool.{Bool, true, false, cond, true≢false}
 use mathlib.Core.List.{List, [], _∷_, _++_}
@@ -19,7 +20,8 @@ module _ {A : Type 0} (ok : A) where
   hit (r ∷ rs) (suc k) e = hit rs k e
 
   -- one that does not leaves the answer to those after it
-  pub skip : (rs : List (Row A)) (k : ℕ) → rowAt ok rs k .fault ≡ false → firstOr ok (drop k rs) ≡ firstOr ok (drop (suc k) rs)
+  pub skip : (rs : List (Row A)) (k : ℕ) → rowAt ok rs k .fault ≡ false →
+      firstOr ok (drop k rs) ≡ firstOr ok (drop (suc k) rs)
   unfolding firstOr
   skip [] zero e = refl
   skip [] (suc k) e = refl
@@ -39,7 +41,8 @@ module _ {A : Type 0} (ok : A) where
   none-holds [] h e k = refl
   none-holds (r ∷ rs) h e k = by (r .fault) refl (λ q i. none-holds rs (rest-refusing r rs h) q i) k
     where
-      by : (b : Bool) → r .fault ≡ b → (firstOr ok rs ≡ ok → (i : ℕ) → rowAt ok rs i .fault ≡ false) → (k : ℕ) → rowAt ok (r ∷ rs) k .fault ≡ false
+      by : (b : Bool) → r .fault ≡ b → (firstOr ok rs ≡ ok → (i : ℕ) → rowAt ok rs i .fault ≡ false) → (k : ℕ) →
+          rowAt ok (r ∷ rs) k .fault ≡ false
       by true f g k = absurd (h 0 (omega arith) (sym (ap (λ (t : Bool). cond t (r .said) (firstOr ok rs)) f) ∙ e))
       by false f g zero = f
       by false f g (suc k) = g (sym (ap (λ (t : Bool). cond t (r .said) (firstOr ok rs)) f) ∙ e) k
@@ -51,10 +54,23 @@ module _ {A : Type 0} (ok : A) where
   first-given (r ∷ rs) a h e = by (r .fault) refl (λ q. first-given rs a h q)
     where
       by : (b : Bool) → r .fault ≡ b → (firstOr ok rs ≡ a → First ok rs a) → First ok (r ∷ rs) a
-      by true f g = record { place = 0; there = omega arith; holds = f; says = sym (ap (λ (t : Bool). cond t (r .said) (firstOr ok rs)) f) ∙ e; before = λ j l. absurd (none-before j l) }
+      by true f g =
+          record {
+            place = 0;
+            there = omega arith;
+            holds = f;
+            says = sym (ap (λ (t : Bool). cond t (r .said) (firstOr ok rs)) f) ∙ e;
+            before = λ j l. absurd (none-before j l);
+          }
       by false f g =
           let q = g (sym (ap (λ (t : Bool). cond t (r .said) (firstOr ok rs)) f) ∙ e) in
-          record { place = suc (q .place); there = omega (arith, q .there); holds = q .holds; says = q .says; before = λ j l. earlier q j l }
+          record {
+            place = suc (q .place);
+            there = omega (arith, q .there);
+            holds = q .holds;
+            says = q .says;
+            before = λ j l. earlier q j l;
+          }
         where
           earlier : (q : First ok rs a) (j : ℕ) → j < suc (q .place) → rowAt ok (r ∷ rs) j .fault ≡ false
           earlier q zero l = f
@@ -74,7 +90,9 @@ module _ {A : Type 0} (ok : A) where
   found [] qs h = absurd (h refl)
   found (r ∷ rs) qs h = by (r .fault) h (λ l. found rs qs l)
     where
-      by : (b : Bool) → (cond b (r .said) (firstOr ok rs) ≡ ok → ⊥) → ((firstOr ok rs ≡ ok → ⊥) → firstOr ok (rs ++ qs) ≡ firstOr ok rs) → cond b (r .said) (firstOr ok (rs ++ qs)) ≡ cond b (r .said) (firstOr ok rs)
+      by : (b : Bool) → (cond b (r .said) (firstOr ok rs) ≡ ok → ⊥) →
+          ((firstOr ok rs ≡ ok → ⊥) → firstOr ok (rs ++ qs) ≡ firstOr ok rs) →
+          cond b (r .said) (firstOr ok (rs ++ qs)) ≡ cond b (r .said) (firstOr ok rs)
       by true l g = refl
       by false l g = g l
 
@@ -84,6 +102,8 @@ module _ {A : Type 0} (ok : A) where
   onward [] qs h e = refl
   onward (r ∷ rs) qs h e = by (r .fault) e (λ l. onward rs qs (rest-refusing r rs h) l)
     where
-      by : (b : Bool) → cond b (r .said) (firstOr ok rs) ≡ ok → (firstOr ok rs ≡ ok → firstOr ok (rs ++ qs) ≡ firstOr ok qs) → cond b (r .said) (firstOr ok (rs ++ qs)) ≡ firstOr ok qs
+      by : (b : Bool) → cond b (r .said) (firstOr ok rs) ≡ ok →
+          (firstOr ok rs ≡ ok → firstOr ok (rs ++ qs) ≡ firstOr ok qs) →
+          cond b (r .said) (firstOr ok (rs ++ qs)) ≡ firstOr ok qs
       by true l g = absurd (h 0 (omega arith) l)
       by false l g = g l

@@ -1,4 +1,5 @@
--- Any two results that meet the contract of a public function are equal, over that contract as the toolchain reads it. Assumes nothing.
+-- Any two results that meet the contract of a public function are equal, over that contract as the
+-- toolchain reads it. Assumes nothing.
 use mathlib.Core.Path.{_≡_, sym, _∙_}
 use Prim.Native.Nat.{ℕ}
 use borrow.Fn.Kinds.{endedOf}
@@ -28,18 +29,22 @@ module _ (κs : Lfts 0) (a : Answer) (r r′ : ℕ) where
   pub place-unique : place-reads.Post κs (a, tt) r (a, tt) → place-reads.Post κs (a, tt) r′ (a, tt) → r ≡ r′
   place-unique p q = p ∙ sym q
 
-module _ (κs : Lfts 1) (a : ArgsD natural.signature κs) (r r′ : ResD natural.signature κs) (x x′ : AtExit (endedOf 1 natural-kinds.ps natural-kinds.r) κs) where
+module _ (κs : Lfts 1) (a : ArgsD natural.signature κs) (r r′ : ResD natural.signature κs)
+    (x x′ : AtExit (endedOf 1 natural-kinds.ps natural-kinds.r) κs) where
   pub natural-unique : natural-reads.Post κs a r x → natural-reads.Post κs a r′ x′ → r ≡ r′
   natural-unique p q = p .0 ∙ sym (q .0)
 
-module _ (κs : Lfts 1) (a : ArgsD raw.signature κs) (r r′ : ResD raw.signature κs) (x x′ : AtExit (endedOf 1 raw-kinds.ps raw-kinds.r) κs) where
+module _ (κs : Lfts 1) (a : ArgsD raw.signature κs) (r r′ : ResD raw.signature κs)
+    (x x′ : AtExit (endedOf 1 raw-kinds.ps raw-kinds.r) κs) where
   pub raw-unique : raw-reads.Post κs a r x → raw-reads.Post κs a r′ x′ → r ≡ r′
   raw-unique p q = p ∙ sym q
 
-module _ (κs : Lfts 1) (a : ArgsD word.signature κs) (r r′ : ResD word.signature κs) (x x′ : AtExit (endedOf 1 word-kinds.ps word-kinds.r) κs) where
+module _ (κs : Lfts 1) (a : ArgsD word.signature κs) (r r′ : ResD word.signature κs)
+    (x x′ : AtExit (endedOf 1 word-kinds.ps word-kinds.r) κs) where
   pub word-unique : word-reads.Post κs a r x → word-reads.Post κs a r′ x′ → r ≡ r′
   word-unique p q = p ∙ sym q
 
-module _ (κs : Lfts 1) (a : ArgsD number.signature κs) (r r′ : ResD number.signature κs) (x x′ : AtExit (endedOf 1 number-kinds.ps number-kinds.r) κs) where
+module _ (κs : Lfts 1) (a : ArgsD number.signature κs) (r r′ : ResD number.signature κs)
+    (x x′ : AtExit (endedOf 1 number-kinds.ps number-kinds.r) κs) where
   pub number-unique : number-reads.Post κs a r x → number-reads.Post κs a r′ x′ → r ≡ r′
   number-unique p q = p ∙ sym q

@@ -1,4 +1,5 @@
-// The words of a script: how many there can be, and where they stand. The header comes first, and behind it the parameters.
+// The words of a script: how many there can be, and where they stand. The header comes first, and
+// behind it the parameters.
 pub const MIN_SCRIPT_BYTES: usize = 32;
 
 pub const MAX_SCRIPT_BYTES: usize = 65536;

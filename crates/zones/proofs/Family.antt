@@ -1,4 +1,5 @@
--- Laws of the search among a family's edges, and of zones changed one after the other. Assumes nothing.
+-- Laws of the search among a family's edges, and of zones changed one after the other. Assumes
+-- nothing.
 use mathlib.Core.Path.{_≡_, refl, ap}
 use mathlib.Core.Bool.{Bool, true, false, cond}
 use mathlib.Core.List.{List, [], _∷_, _++_, map}
@@ -18,27 +19,30 @@ use Rattle.zones.proofs.Taken.{taken-more, taken-ends}
 abbrev pub searchFrom : Bool → List Blue → ℕ → Fixed → Fixed → Nearest → ℕ → Nearest
 searchFrom bottom bs n flat limit near i = nearestFrom flat limit near (map (familyEdge bottom) (drop i (take n bs)))
 
-module _ (bottom : Bool) (bs : List Blue) (n : ℕ) (fits : n ≤ length bs) (flat limit : Fixed) (near : Nearest) (i : ℕ) where
-  -- it takes in pair i, unless the nearest so far ends it
-  search-at : i < n →
-      searchFrom bottom bs n flat limit near i ≡
-      cond (sameF (near .diff) ZERO) near (searchFrom bottom bs n flat limit (nearer flat limit near (familyEdge bottom (getD bs i noBlue))) (i + 1))
-  unfolding nearestFrom
-  search-at l = rw (taken-more n bs fits i noBlue l)
+module _ (bottom : Bool) (bs : List Blue) (n : ℕ) (fits : n ≤ length bs) (flat limit : Fixed) (near : Nearest) (i : ℕ)
+  where
+    -- it takes in pair i, unless the nearest so far ends it
+    search-at : i < n →
+        searchFrom bottom bs n flat limit near i ≡
+        cond (sameF (near .diff) ZERO) near
+        (searchFrom bottom bs n flat limit (nearer flat limit near (familyEdge bottom (getD bs i noBlue))) (i + 1))
+    unfolding nearestFrom
+    search-at l = rw (taken-more n bs fits i noBlue l)
 
-  -- a distance of 0 ends it
-  pub search-found : i < n → sameF (near .diff) ZERO ≡ true → searchFrom bottom bs n flat limit near i ≡ near
-  search-found l t = rw (search-at l, t)
+    -- a distance of 0 ends it
+    pub search-found : i < n → sameF (near .diff) ZERO ≡ true → searchFrom bottom bs n flat limit near i ≡ near
+    search-found l t = rw (search-at l, t)
 
-  -- any other distance lets it take in pair i
-  pub search-goes : i < n → sameF (near .diff) ZERO ≡ false →
-      searchFrom bottom bs n flat limit near i ≡ searchFrom bottom bs n flat limit (nearer flat limit near (familyEdge bottom (getD bs i noBlue))) (i + 1)
-  search-goes l t = rw (search-at l, t)
+    -- any other distance lets it take in pair i
+    pub search-goes : i < n → sameF (near .diff) ZERO ≡ false →
+        searchFrom bottom bs n flat limit near i ≡
+        searchFrom bottom bs n flat limit (nearer flat limit near (familyEdge bottom (getD bs i noBlue))) (i + 1)
+    search-goes l t = rw (search-at l, t)
 
-  -- the end of the list ends it
-  pub search-ends : n ≤ i → searchFrom bottom bs n flat limit near i ≡ near
-  unfolding nearestFrom
-  search-ends l = rw (taken-ends n bs fits i l)
+    -- the end of the list ends it
+    pub search-ends : n ≤ i → searchFrom bottom bs n flat limit near i ≡ near
+    unfolding nearestFrom
+    search-ends l = rw (taken-ends n bs fits i l)
 
 -- the zones before i changed alike; at the count this is `eachIn`
 abbrev pub eachBefore : (BlueZone → BlueZone) → Zones → ℕ → Zones
@@ -49,7 +53,8 @@ eachBefore f q i =
       greatest = q .greatest;
     }
 
--- where the zones before i are changed, changing zone i too leaves those before i + 1 changed: of a list
+-- where the zones before i are changed, changing zone i too leaves those before i + 1 changed: of a
+-- list
 each-set : (f : BlueZone → BlueZone) (zs : List BlueZone) (i : ℕ) (d : BlueZone) →
     let before = map f (take i zs) ++ drop i zs in
     set before i (f (getD before i d)) ≡ map f (take (suc i) zs) ++ drop (suc i) zs
@@ -60,5 +65,9 @@ each-set f (z ∷ zs) (suc i) d = ap (λ l. f z ∷ l) (each-set f zs i d)
 
 -- and of the zones held by value
 pub each-more : (f : BlueZone → BlueZone) (q : Zones) (i : ℕ) (d : BlueZone) {p : Zones} → p ≡ eachBefore f q i →
-    _≡_ {A = Zones} (record { list = set (p .list) i (f (getD (p .list) i d)); count = p .count; greatest = p .greatest }) (eachBefore f q (i + 1))
+    _≡_ {A = Zones} (record {
+      list = set (p .list) i (f (getD (p .list) i d));
+      count = p .count;
+      greatest = p .greatest;
+    }) (eachBefore f q (i + 1))
 each-more f q i d e = rw (e, add-one i, each-set f (q .list) i d)

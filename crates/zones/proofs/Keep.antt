@@ -14,7 +14,8 @@ use Rattle.zones.specs.declared.blues.Blue.{Blue}
 use Rattle.zones.specs.declared.blues.Blues.{Blues}
 use Rattle.zones.specs.declared.blues.BlueZone.{BlueZone}
 use Rattle.zones.specs.declared.blues.Zones.{Zones}
-use Rattle.zones.specs.Zones.{noBlue, noZone, heightOf, zoneOf, sift, bluesZones, greatestFrom, filled, packed, noZones, pushed, keptIn, readIn, listOf, kept, eachIn}
+use Rattle.zones.specs.Zones.{noBlue, noZone, heightOf, zoneOf, sift, bluesZones, greatestFrom, filled, packed}
+use Rattle.zones.specs.Zones.{noZones, pushed, keptIn, readIn, listOf, kept, eachIn}
 use Rattle.zones.proofs.Taken.{taken-more, taken-ends}
 
 -- a pair read adds at most one zone
@@ -28,7 +29,8 @@ kept-count other q b = go (lessF (heightOf b) ZERO)
 
 module _ (other : Bool) (q : Zones) (n : ℕ) (bs : List Blue) (fits : n ≤ length bs) (i : ℕ) where
   -- a pair more of those to be read
-  pub read-more : i < n → readIn other q (drop i (take n bs)) ≡ readIn other (keptIn other q (getD bs i noBlue)) (drop (i + 1) (take n bs))
+  pub read-more : i < n → readIn other q (drop i (take n bs)) ≡
+      readIn other (keptIn other q (getD bs i noBlue)) (drop (i + 1) (take n bs))
   unfolding readIn
   read-more l = rw (taken-more n bs fits i noBlue l)
 
@@ -42,17 +44,21 @@ module _ (other : Bool) (q : Zones) (n : ℕ) (bs : List Blue) (fits : n ≤ len
 abbrev span : BlueZone → Fixed
 span z = subF (z .«cs_top_edge») (z .«cs_bottom_edge»)
 
-greatest-last : (g : Fixed) (zs : List BlueZone) (z : BlueZone) → greatestFrom g (zs ++ z ∷ []) ≡ maxF (greatestFrom g zs) (span z)
+greatest-last : (g : Fixed) (zs : List BlueZone) (z : BlueZone) →
+    greatestFrom g (zs ++ z ∷ []) ≡ maxF (greatestFrom g zs) (span z)
 unfolding greatestFrom
 greatest-last g [] z = refl
 greatest-last g (y ∷ ys) z = greatest-last (maxF g (span y)) ys z
 
 -- one zone more
-push-packed : (zs : List BlueZone) (z : BlueZone) → length zs < 12 → pushed (packed zs) z (span z) ≡ packed (zs ++ z ∷ [])
+push-packed : (zs : List BlueZone) (z : BlueZone) → length zs < 12 →
+    pushed (packed zs) z (span z) ≡ packed (zs ++ z ∷ [])
 push-packed zs z h =
     let more : length (zs ++ z ∷ []) ≡ length zs + 1 = length-append zs (z ∷ []) in
     let left : 12 - length zs ≡ suc (12 - (length zs + 1)) = omega arith in
-    let stored : set (filled zs) (length zs) z ≡ filled (zs ++ z ∷ []) = rw (left, more) (set-at zs noZone _ z (length zs) refl ∙ sym (append-assoc zs (z ∷ []) _)) in
+    let stored : set (filled zs) (length zs) z ≡
+    filled (zs ++ z ∷ []) = rw (left, more)
+    (set-at zs noZone _ z (length zs) refl ∙ sym (append-assoc zs (z ∷ []) _)) in
     rw (stored, more, greatest-last ZERO zs z)
 
 -- ---- a list that is read
@@ -63,17 +69,21 @@ Steady other bottom m = (n : ℕ) → m ≤ n → (other || eqb n 0) ≡ bottom
 -- what reading some pairs is to give, whatever zones there are
 abbrev Reads : Bool → Bool → List Blue → Type 0
 Reads other bottom bs =
-    (zs : List BlueZone) → Steady other bottom (length zs) → length zs + length bs ≤ 12 → readIn other (packed zs) bs ≡ packed (zs ++ map (zoneOf bottom) (sift bs))
+    (zs : List BlueZone) → Steady other bottom (length zs) → length zs + length bs ≤ 12 →
+    readIn other (packed zs) bs ≡ packed (zs ++ map (zoneOf bottom) (sift bs))
 
 module _ (other bottom : Bool) where
-  read-one : (t : Bool) (b : Blue) (bs : List Blue) → Reads other bottom bs → (zs : List BlueZone) → lessF (heightOf b) ZERO ≡ t → Steady other bottom (length zs) → length zs + suc (length bs) ≤ 12 → readIn other (keptIn other (packed zs) b) bs ≡ packed (zs ++ map (zoneOf bottom) (cond t (sift bs) (b ∷ sift bs)))
+  read-one : (t : Bool) (b : Blue) (bs : List Blue) → Reads other bottom bs → (zs : List BlueZone) →
+      lessF (heightOf b) ZERO ≡ t → Steady other bottom (length zs) → length zs + suc (length bs) ≤ 12 →
+      readIn other (keptIn other (packed zs) b) bs ≡ packed (zs ++ map (zoneOf bottom) (cond t (sift bs) (b ∷ sift bs)))
   unfolding keptIn
   read-one true b bs ih zs e k h = rw e (ih zs k (omega arith))
   read-one false b bs ih zs e k h =
       let z = zoneOf bottom b in
       let more : length (zs ++ z ∷ []) ≡ length zs + 1 = length-append zs (z ∷ []) in
       rw (e, k (length zs) (omega arith), push-packed zs z (omega arith))
-      (ih (zs ++ z ∷ []) (λ n q. k n (omega arith)) (omega arith) ∙ ap packed (append-assoc zs (z ∷ []) (map (zoneOf bottom) (sift bs))))
+      (ih (zs ++ z ∷ []) (λ n q. k n (omega arith)) (omega arith) ∙
+      ap packed (append-assoc zs (z ∷ []) (map (zoneOf bottom) (sift bs))))
 
   read-all : (bs : List Blue) → Reads other bottom bs
   unfolding readIn sift
@@ -81,16 +91,20 @@ module _ (other bottom : Bool) where
   read-all (b ∷ bs) zs k h = read-one (lessF (heightOf b) ZERO) b bs (read-all bs) zs refl k h
 
 -- other blues are bottom zones
-pub read-others : (zs : List BlueZone) (bs : List Blue) → length zs + length bs ≤ 12 → readIn true (packed zs) bs ≡ packed (zs ++ map (zoneOf true) (sift bs))
+pub read-others : (zs : List BlueZone) (bs : List Blue) → length zs + length bs ≤ 12 →
+    readIn true (packed zs) bs ≡ packed (zs ++ map (zoneOf true) (sift bs))
 read-others zs bs h = read-all true true bs zs (λ n q. refl) h
 
 -- of the blues the first kept is a bottom zone, and the later ones are top zones
-first-kept : (t : Bool) (b : Blue) (bs : List Blue) → lessF (heightOf b) ZERO ≡ t → length bs < 12 → readIn false noZones bs ≡ packed (bluesZones (sift bs)) → readIn false (keptIn false noZones b) bs ≡ packed (bluesZones (cond t (sift bs) (b ∷ sift bs)))
+first-kept : (t : Bool) (b : Blue) (bs : List Blue) → lessF (heightOf b) ZERO ≡ t → length bs < 12 →
+    readIn false noZones bs ≡ packed (bluesZones (sift bs)) →
+    readIn false (keptIn false noZones b) bs ≡ packed (bluesZones (cond t (sift bs) (b ∷ sift bs)))
 unfolding keptIn bluesZones
 first-kept true b bs e h ih = rw e ih
 first-kept false b bs e h ih =
     let z = zoneOf true b in
-    rw (e, push-packed [] z (omega arith)) (read-all false false bs (z ∷ []) (λ n q. ne-eqb n 0 (λ w. omega arith)) (omega arith))
+    rw (e, push-packed [] z (omega arith))
+    (read-all false false bs (z ∷ []) (λ n q. ne-eqb n 0 (λ w. omega arith)) (omega arith))
 
 pub read-blues : (bs : List Blue) → length bs ≤ 12 → readIn false noZones bs ≡ packed (bluesZones (sift bs))
 unfolding readIn sift bluesZones
@@ -119,7 +133,8 @@ pub kept-length : (blues others : Blues) → length (listOf blues) ≤ 7 → len
 unfolding kept
 kept-length blues others h =
     let five = take 5 (listOf others) in
-    simp (length-append, length-map) (omega (arith, blues-length (listOf blues), sift-length five, length-take 5 (listOf others)))
+    simp (length-append, length-map)
+    (omega (arith, blues-length (listOf blues), sift-length five, length-take 5 (listOf others)))
 
 -- zones that are changed alike
 pub each-filled : (f : BlueZone → BlueZone) (zs : List BlueZone) → eachIn f (packed zs) .list ≡ filled (map f zs)

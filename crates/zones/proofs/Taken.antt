@@ -1,4 +1,5 @@
--- The first n of a list, gone through from place i on, as loops over counted lists do. Assumes nothing.
+-- The first n of a list, gone through from place i on, as loops over counted lists do. Assumes
+-- nothing.
 use mathlib.Core.Path.{_≡_}
 use mathlib.Core.List.{List, [], _∷_}
 use Prim.Native.Nat.{ℕ, _+_, _≤_, _<_}

@@ -18,25 +18,29 @@ within fuzz z h = atMostF (subF (z .«cs_bottom_edge») fuzz) h && atMostF h (ad
 
 -- a bottom zone holds the stem's bottom edge, a top zone its top edge
 unfoldable pub holds : Fixed → Hint → Hint → BlueZone → Bool
-holds fuzz b t z = cond (z .«is_bottom») (isBottom b && within fuzz z (b .«cs_coord»)) (isTop t && within fuzz z (t .«cs_coord»))
+holds fuzz b t z =
+    cond (z .«is_bottom») (isBottom b && within fuzz z (b .«cs_coord»)) (isTop t && within fuzz z (t .«cs_coord»))
 
 -- the first zone that holds
 unfoldable pub firstHolding : Fixed → Hint → Hint → List BlueZone → Held
 firstHolding fuzz b t [] = Free
 firstHolding fuzz b t (z ∷ zs) = cond (holds fuzz b t z) (By z) (firstHolding fuzz b t zs)
 
--- where a held bottom edge goes: with suppression to the device flat edge; else it rounds, and where it lies at least blue shift under the zone's top it goes no higher than device flat − 1.0
+-- where a held bottom edge goes: with suppression to the device flat edge; else it rounds, and
+-- where it lies at least blue shift under the zone's top it goes no higher than device flat − 1.0
 unfoldable pub bottomGoal : HintState → BlueZone → Hint → Fixed
 bottomGoal st z e =
     cond (st .«suppress_overshoot») (z .«ds_flat_edge»)
-    (cond (atMostF (st .«blue_shift») (subF (z .«cs_top_edge») (e .«cs_coord»))) (minF (roundF (e .«ds_coord»)) (subF (z .«ds_flat_edge») ONE))
+    (cond (atMostF (st .«blue_shift») (subF (z .«cs_top_edge») (e .«cs_coord»)))
+    (minF (roundF (e .«ds_coord»)) (subF (z .«ds_flat_edge») ONE))
     (roundF (e .«ds_coord»)))
 
 -- mirrored for a top edge, measured from the zone's bottom
 unfoldable pub topGoal : HintState → BlueZone → Hint → Fixed
 topGoal st z e =
     cond (st .«suppress_overshoot») (z .«ds_flat_edge»)
-    (cond (atMostF (st .«blue_shift») (subF (e .«cs_coord») (z .«cs_bottom_edge»))) (maxF (roundF (e .«ds_coord»)) (addF (z .«ds_flat_edge») ONE))
+    (cond (atMostF (st .«blue_shift») (subF (e .«cs_coord») (z .«cs_bottom_edge»)))
+    (maxF (roundF (e .«ds_coord»)) (addF (z .«ds_flat_edge») ONE))
     (roundF (e .«ds_coord»)))
 
 -- the move of the held edge
@@ -51,7 +55,8 @@ lifted e by = cond (isValid e) (lockedAt e (addF (e .«ds_coord») by)) e
 -- both valid edges move alike
 abbrev pub capturedBy : Held → HintState → Hint → Hint → Captured
 capturedBy Free st b t = record { captured = false; bottom = b; top = t }
-capturedBy (By z) st b t = record { captured = true; bottom = lifted b (captureMove st z b t); top = lifted t (captureMove st z b t) }
+capturedBy (By z) st b t =
+    record { captured = true; bottom = lifted b (captureMove st z b t); top = lifted t (captureMove st z b t) }
 
 unfoldable pub captureOf : HintState → Hint → Hint → Captured
 captureOf st b t = capturedBy (firstHolding (st .«blue_fuzz») b t (take (st .«zone_count») (st .zones))) st b t

@@ -30,11 +30,13 @@ abbrev pub isOne : ℤ → Bool
 isOne (pos n) = eqb n 1
 isOne (negsuc n) = false
 
--- group 1 with no blues pairs, or with two, the first wholly below −120.0 and the second wholly above 880.0
+-- group 1 with no blues pairs, or with two, the first wholly below −120.0 and the second wholly
+-- above 880.0
 unfoldable pub emBox : HintParams → Bool
 emBox p =
     isOne (p .«language_group») && (eqb (p .blues .count) 0 || (eqb (p .blues .count) 2
-    && (whollyBelow icfBottom (getD (p .blues .pairs) 0 noBlue) && whollyAbove icfTop (getD (p .blues .pairs) 1 noBlue))))
+    && (whollyBelow icfBottom (getD (p .blues .pairs) 0 noBlue) &&
+    whollyAbove icfTop (getD (p .blues .pairs) 1 noBlue))))
 
 -- ---- step 3: blue scale is at most 1.0/(the greatest height), where that height is above 0
 unfoldable pub clampedScale : Fixed → Fixed → Fixed
@@ -77,7 +79,8 @@ stateWith p s bs suppress em boost zs =
 abbrev pub stateBy : Bool → HintParams → Fixed → HintState
 stateBy true p s = stateWith p s (p .«blue_scale») false true ZERO []
 stateBy false p s =
-    stateWith p s (blueScaleOf p) (suppresses s (blueScaleOf p)) false (boostOf s (blueScaleOf p)) (map (finished p s (boostOf s (blueScaleOf p))) (keptOf p))
+    stateWith p s (blueScaleOf p) (suppresses s (blueScaleOf p)) false (boostOf s (blueScaleOf p))
+    (map (finished p s (boostOf s (blueScaleOf p))) (keptOf p))
 
 unfoldable pub stateOf : HintParams → Fixed → HintState
 stateOf p s = stateBy (emBox p) p s

@@ -72,7 +72,8 @@ greatestFrom g [] = g
 greatestFrom g (z ∷ zs) = greatestFrom (maxF g (subF (z .«cs_top_edge») (z .«cs_bottom_edge»))) zs
 
 -- ---- step 2: the family
--- the edges that a family's pairs have for bottom zones (true), and for top zones, which pass over the first pair
+-- the edges that a family's pairs have for bottom zones (true), and for top zones, which pass over
+-- the first pair
 abbrev pub familyEdge : Bool → Blue → Fixed
 familyEdge bottom b = cond bottom (b .top) (b .bottom)
 
@@ -89,9 +90,11 @@ distance flat edge = absF (subF flat edge)
 -- the nearest so far, or another edge where that is nearer and less than the limit, 1.0/scale, away
 unfoldable pub nearer : Fixed → Fixed → Nearest → Fixed → Nearest
 nearer flat limit n edge =
-    cond (lessF (distance flat edge) (n .diff) && lessF (distance flat edge) limit) (record { edge = edge; diff = distance flat edge }) n
+    cond (lessF (distance flat edge) (n .diff) && lessF (distance flat edge) limit)
+    (record { edge = edge; diff = distance flat edge }) n
 
--- the search along some edges: of two that are as near the earlier stays, and a distance of 0 ends it
+-- the search along some edges: of two that are as near the earlier stays, and a distance of 0 ends
+-- it
 unfoldable pub nearestFrom : Fixed → Fixed → Nearest → List Fixed → Nearest
 nearestFrom flat limit n [] = n
 nearestFrom flat limit n (x ∷ xs) = cond (sameF (n .diff) ZERO) n (nearestFrom flat limit (nearer flat limit n x) xs)
@@ -120,7 +123,8 @@ withFlat z flat =
 
 -- the flat edge moves to the nearest of those that count, or stays
 unfoldable pub movedFlat : Blues → Blues → Fixed → BlueZone → BlueZone
-movedFlat others blues limit z = withFlat z (familyNearest (z .«is_bottom») others blues (z .«cs_flat_edge») limit .edge)
+movedFlat others blues limit z =
+    withFlat z (familyNearest (z .«is_bottom») others blues (z .«cs_flat_edge») limit .edge)
 
 -- ---- step 5: the flat edge on the device
 abbrev pub withDeviceFlat : BlueZone → Fixed → BlueZone
@@ -135,13 +139,15 @@ withDeviceFlat z d =
 
 -- round(flat·scale + boost), with the boost negated for bottom zones
 unfoldable pub deviceFlat : Fixed → Fixed → BlueZone → BlueZone
-deviceFlat s boost z = withDeviceFlat z (roundF (addF (mulF (z .«cs_flat_edge») s) (cond (z .«is_bottom») (negF boost) boost)))
+deviceFlat s boost z =
+    withDeviceFlat z (roundF (addF (mulF (z .«cs_flat_edge») s) (cond (z .«is_bottom») (negF boost) boost)))
 
 -- ---- zones held by value
 abbrev pub noZone : BlueZone
 noZone = zoneOf false noBlue
 
--- some zones, at most twelve, with blank ones behind them; and the same with their count and greatest height
+-- some zones, at most twelve, with blank ones behind them; and the same with their count and
+-- greatest height
 abbrev pub filled : List BlueZone → List BlueZone
 filled zs = zs ++ replicate (maxZones - length zs) noZone
 

@@ -4,9 +4,12 @@ use fixed::least;
 ghost use mathlib.Core.Path.{_≡_};
 ghost use Prim.Native.Nat.{_+_, _<_, _≤_};
 ghost use lib.ListN.{take, getD};
-ghost use Rattle.zones.specs.Zones.{maxBlues, maxZones, heightOf, whollyBelow, whollyAbove, noBlue, noZone, zoneOf, noZones, pushed, keptIn, readIn, eachIn, familyEdge, familyFrom, nearer, nearestOf, movedFlat, deviceFlat};
+ghost use Rattle.zones.specs.Zones.{maxBlues, maxZones, heightOf, whollyBelow, whollyAbove, noBlue, noZone};
+ghost use Rattle.zones.specs.Zones.{zoneOf, noZones, pushed, keptIn, readIn, eachIn, familyEdge, familyFrom};
+ghost use Rattle.zones.specs.Zones.{nearer, nearestOf, movedFlat, deviceFlat};
 
-// How many pairs a list has at most, how many of the other blues count, and how many zones that makes.
+// How many pairs a list has at most, how many of the other blues count, and how many zones that
+// makes.
 pub const MAX_BLUES: usize = 7;
 
 pub const MAX_OTHER_BLUES: usize = 5;
@@ -87,7 +90,8 @@ impl BlueZone {
         }
     }
 
-    // From `build_zones`: the zone of a pair. A bottom zone is flat at its top, a top zone at its bottom.
+    // From `build_zones`: the zone of a pair. A bottom zone is flat at its top, a top zone at its
+    // bottom.
     pub(crate) fn new(pair: Blue, bottom: bool) -> BlueZone
         ensures { λ r. ⌜ r ≡ zoneOf bottom pair ⌝ }
     {
@@ -172,7 +176,8 @@ impl Zones {
         zones
     }
 
-    // From `build_zones`: a pair is kept unless its height is negative. The first zone of all is a bottom zone, and so is every zone of the other blues.
+    // From `build_zones`: a pair is kept unless its height is negative. The first zone of all is a
+    // bottom zone, and so is every zone of the other blues.
     pub(crate) fn keep(self, pair: Blue, other: bool) -> Zones
         requires { ⌜ self .count < maxZones ⌝ }
         ensures { λ r. ⌜ r ≡ keptIn other self pair ⌝ }
@@ -251,7 +256,8 @@ impl Blues {
         pair.bottom
     }
 
-    // From `build_zones`: the family edge nearest to a flat edge, or that flat edge, and how far it is. For top zones the first pair is passed over.
+    // From `build_zones`: the family edge nearest to a flat edge, or that flat edge, and how far it
+    // is. For top zones the first pair is passed over.
     pub(crate) fn nearest(self, flat: Fixed, limit: Fixed, bottom: bool) -> Nearest
         ensures { λ r. ⌜ r ≡ nearestOf bottom self flat limit ⌝ }
     {
@@ -272,7 +278,8 @@ impl Blues {
     }
 }
 
-// The first pair of a family's list that counts: of the other blues the first, of the blues the second.
+// The first pair of a family's list that counts: of the other blues the first, of the blues the
+// second.
 fn first_for(bottom: bool) -> usize
     ensures { λ r. ⌜ r ≡ familyFrom bottom ⌝ }
 {

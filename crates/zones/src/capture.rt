@@ -7,7 +7,8 @@ use fixed::least;
 use stems::Hint;
 ghost use mathlib.Core.Path.{_≡_};
 ghost use lib.ListN.{take};
-ghost use Rattle.zones.specs.Capture.{within, holds, firstHolding, bottomGoal, topGoal, captureMove, lifted, captureOf};
+ghost use Rattle.zones.specs.Capture.{within, holds, firstHolding, bottomGoal, topGoal, captureMove, lifted};
+ghost use Rattle.zones.specs.Capture.{captureOf};
 
 // The zone that holds one of the edges, if there is one.
 pub enum Held {
@@ -76,7 +77,8 @@ impl HintState {
         Held::Free
     }
 
-    // From `capture`: where a bottom edge goes in a bottom zone. An overshoot that is kept and deep enough shows by a whole pixel at least.
+    // From `capture`: where a bottom edge goes in a bottom zone. An overshoot that is kept and deep
+    // enough shows by a whole pixel at least.
     fn bottom_goal(self, zone: BlueZone, edge: Hint) -> Fixed
         ensures { λ r. ⌜ r ≡ bottomGoal self zone edge ⌝ }
     {

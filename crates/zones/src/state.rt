@@ -37,13 +37,14 @@ pub struct HintState {
     pub zone_count: usize,
 }
 
-// The em box, from −120.0 to 880.0: the ascent and descent that a font for ideographs has unless it says otherwise.
+// The em box, from −120.0 to 880.0: the ascent and descent that a font for ideographs has unless it
+// says otherwise.
 const ICF_BOTTOM: Fixed = Fixed { bits: -0x78_0000 };
 
 const ICF_TOP: Fixed = Fixed { bits: 0x370_0000 };
 
-// The boost at scale 0, 0.6 of a pixel, and the most that it may be. It stays under a half, or the baseline, which it pushes down,
-// would round to a pixel below 0.
+// The boost at scale 0, 0.6 of a pixel, and the most that it may be. It stays under a half, or the
+// baseline, which it pushes down, would round to a pixel below 0.
 const FULL_BOOST: Fixed = Fixed { bits: 39322 };
 
 const MOST_BOOST: Fixed = Fixed { bits: 0x7fff };

@@ -1,4 +1,5 @@
--- `bits_of` meets its contract: of a number below 0 the complement of its complement, of any other itself. Assumes nothing.
+-- `bits_of` meets its contract: of a number below 0 the complement of its complement, of any other
+-- itself. Assumes nothing.
 use mathlib.Core.Path.{_≡_, sym}
 use mathlib.Core.Bool.{true, false, true≢false}
 use Prim.Native.Nat.{_-_, _<_}

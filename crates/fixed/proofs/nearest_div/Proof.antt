@@ -1,4 +1,5 @@
--- `nearest_div` meets its contract: half the divisor away from zero, then toward zero, is the nearest with halves away from zero. Assumes nothing.
+-- `nearest_div` meets its contract: half the divisor away from zero, then toward zero, is the
+-- nearest with halves away from zero. Assumes nothing.
 use mathlib.Core.Path.{_≡_}
 use mathlib.Core.Bool.{true, false}
 use Prim.Native.Nat.{_+_, _/_, _^_, _<_}
@@ -34,14 +35,16 @@ module _ (c : tie.Then1) where
   neg : ltZ (c .before .args .p) (pos 0) ≡ true
   neg = rw (pp (c .before)) at (c .if1 .taken)
 
-  down : toZ w64 (ofZ w64 (c .before .args .p)) -ℤ toZ w64 (c .before .args .d / 2) ≡ negℤ (pos (natAbs (c .before .args .p) + c .before .args .d / 2))
+  down : toZ w64 (ofZ w64 (c .before .args .p)) -ℤ toZ w64 (c .before .args .d / 2) ≡
+      negℤ (pos (natAbs (c .before .args .p) + c .before .args .d / 2))
   down = rw (pp (c .before), hh (c .before)) (down-is (c .before .args .p) (c .before .args .d / 2) neg)
 
 module _ (c : tie.Else1) where
   notneg : ltZ (c .before .args .p) (pos 0) ≡ false
   notneg = rw (pp (c .before)) at (c .if1 .left)
 
-  above : toZ w64 (ofZ w64 (c .before .args .p)) +ℤ toZ w64 (c .before .args .d / 2) ≡ pos (natAbs (c .before .args .p) + c .before .args .d / 2)
+  above : toZ w64 (ofZ w64 (c .before .args .p)) +ℤ toZ w64 (c .before .args .d / 2) ≡
+      pos (natAbs (c .before .args .p) + c .before .args .d / 2)
   above = rw (pp (c .before), hh (c .before)) (up-is (c .before .args .p) (c .before .args .d / 2) notneg)
 
 cast-whole : tie.Need-cast-whole
@@ -54,24 +57,39 @@ sub-result : tie.Need-sub-result
 sub-result c = rw (down c) (neg-fits _ (big (c .before)))
 
 div-result : tie.Need-div-result
-div-result c = (c .before .pre .1, rw (down c, toZ-ofZ (neg-fits _ (big (c .before))), dd (c .before), quot-neg) (neg-fits _ (less (c .before))))
+div-result c = (
+  c .before .pre .1,
+  rw (down c, toZ-ofZ (neg-fits _ (big (c .before))), dd (c .before), quot-neg)
+      (neg-fits _ (less (c .before))),
+)
 
 add-result : tie.Need-add-result
 add-result c = rw (above c) (abs-fits _ (big (c .before)))
 
 div-result-2 : tie.Need-div-result-2
-div-result-2 c = (c .before .pre .1, rw (above c, toZ-ofZ (abs-fits _ (big (c .before))), dd (c .before)) (abs-fits _ (less (c .before))))
+div-result-2 c = (
+  c .before .pre .1,
+  rw (above c, toZ-ofZ (abs-fits _ (big (c .before))), dd (c .before))
+      (abs-fits _ (less (c .before))),
+)
 
 returns : tie.Need-returns
 returns c =
     let s = c .before in
-    rw (down c, toZ-ofZ (neg-fits _ (big s)), dd s, quot-neg, toZ-ofZ (neg-fits _ (less s))) (nearest-below (s .args .p) (s .args .d) (neg c))
+    rw (down c, toZ-ofZ (neg-fits _ (big s)), dd s, quot-neg, toZ-ofZ (neg-fits _ (less s)))
+    (nearest-below (s .args .p) (s .args .d) (neg c))
 
 returns-2 : tie.Need-returns-2
 returns-2 c =
     let s = c .before in
-    rw (above c, toZ-ofZ (abs-fits (pos (natAbs (s .args .p) + s .args .d / 2)) (big s)), dd s, toZ-ofZ (abs-fits (pos ((natAbs (s .args .p) + s .args .d / 2) / s .args .d)) (less s)))
+    rw (
+      above c,
+      toZ-ofZ (abs-fits (pos (natAbs (s .args .p) + s .args .d / 2)) (big s)),
+      dd s,
+      toZ-ofZ (abs-fits (pos ((natAbs (s .args .p) + s .args .d / 2) / s .args .d)) (less s)),
+    )
     (nearest-above (s .args .p) (s .args .d) (notneg c))
 
 pub nearest-div-spec : {M : Type 1} → statement M
-nearest-div-spec = tie.close (tie.spec cast-whole cast-half sub-result div-result returns add-result div-result-2 returns-2)
+nearest-div-spec =
+    tie.close (tie.spec cast-whole cast-half sub-result div-result returns add-result div-result-2 returns-2)

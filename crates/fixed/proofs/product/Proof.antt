@@ -1,4 +1,5 @@
--- `product` meets its contract: two 32-bit numbers have a product that 64 bits hold. Assumes nothing.
+-- `product` meets its contract: two 32-bit numbers have a product that 64 bits hold. Assumes
+-- nothing.
 use mathlib.Core.Path.{_∙_}
 use native.Mathlib.Omega.{arith}
 use borrow.Author.Needs.{needs}
@@ -15,7 +16,9 @@ cast-result-2 : tie.Need-cast-result-2
 cast-result-2 c = search (needs, wide)
 
 mul-result : tie.Need-mul-result
-mul-result c = rw (widened _ (c .fits .a), widened _ (c .fits .b)) (abs-fits _ (omega (arith, mul-bound (c .args .a) (c .args .b) (c .fits .a) (c .fits .b))))
+mul-result c =
+    rw (widened _ (c .fits .a), widened _ (c .fits .b))
+    (abs-fits _ (omega (arith, mul-bound (c .args .a) (c .args .b) (c .fits .a) (c .fits .b))))
 
 returns : tie.Need-returns
 returns c = toZ-ofZ (mul-result c) ∙ rw (widened _ (c .fits .a), widened _ (c .fits .b))

@@ -28,7 +28,12 @@ returns : tie.Need-returns
 returns c =
     let product = c .before .before .product in
     let near = c .before .nearest-div in
-    cc (exact (c .before .before), read w64 (product .result) (product .ok), read w64 (near .result) (near .ok), read w32 (c .wrap .result) (c .wrap .ok))
+    cc (
+      exact (c .before .before),
+      read w64 (product .result) (product .ok),
+      read w64 (near .result) (near .ok),
+      read w32 (c .wrap .result) (c .wrap .ok),
+    )
 
 pub ratio-spec : {M : Type 1} → statement M
 ratio-spec = tie.close (tie.spec product-requires nearest-div-requires wrap-requires returns)

@@ -1,4 +1,5 @@
--- `signed` meets its contract: below 2^31 the bits are the number, and else the complement of their complement. Assumes nothing.
+-- `signed` meets its contract: below 2^31 the bits are the number, and else the complement of their
+-- complement. Assumes nothing.
 use mathlib.Core.Path.{_≡_, refl, ap}
 use Prim.Native.Nat.{_-_}
 use native.Mathlib.Omega.{arith}

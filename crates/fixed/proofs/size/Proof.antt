@@ -1,4 +1,5 @@
--- `size` meets its contract: the size of a 32-bit number, the least one included, fits 32 bits without a sign. Assumes nothing.
+-- `size` meets its contract: the size of a 32-bit number, the least one included, fits 32 bits
+-- without a sign. Assumes nothing.
 use mathlib.Core.Path.{_≡_, sym, _∙_, subst}
 use mathlib.Core.Bool as B
 use Prim.Native.Nat.{_≤_}
@@ -19,7 +20,9 @@ small : (s : tie.Start) → natAbs (s .args .x) ≤ 2147483648
 small s = natAbs-le (s .args .x) (s .fits .x .sfits)
 
 minus : (c : tie.Then1) → pos 0 -ℤ c .before .args .x ≡ pos (natAbs (c .before .args .x))
-minus c = +ℤ-idl (negℤ (c .before .args .x)) ∙ abs-below (c .before .args .x) (rw (toZ-ofZ (c .before .fits .x)) at (c .if1 .taken))
+minus c =
+    +ℤ-idl (negℤ (c .before .args .x)) ∙
+    abs-below (c .before .args .x) (rw (toZ-ofZ (c .before .fits .x)) at (c .if1 .taken))
 
 fits : (c : tie.Then1) → SFits w64 (pos (natAbs (c .before .args .x)))
 fits c = abs-fits (pos (natAbs (c .before .args .x))) (omega (arith, small (c .before)))
@@ -34,10 +37,16 @@ sub-result : tie.Need-sub-result
 sub-result c = rw (widened _ (c .before .fits .x), minus c) (fits c)
 
 cast-result-2 : tie.Need-cast-result-2
-cast-result-2 c = rw (widened _ (c .before .fits .x), minus c, toZ-ofZ (fits c)) (tt, record { fits = omega (arith, small (c .before)) })
+cast-result-2 c =
+    rw (widened _ (c .before .fits .x), minus c, toZ-ofZ (fits c))
+    (tt, record { fits = omega (arith, small (c .before)) })
 
 cast-result-3 : tie.Need-cast-result-3
-cast-result-3 c = rw (toZ-ofZ (c .before .fits .x)) (yes-nonNeg {z = c .before .args .x} (ltZ-no {a = c .before .args .x} (not c)), record { fits = omega (arith, small (c .before)) })
+cast-result-3 c =
+    rw (toZ-ofZ (c .before .fits .x)) (
+      yes-nonNeg {z = c .before .args .x} (ltZ-no {a = c .before .args .x} (not c)),
+      record { fits = omega (arith, small (c .before)) },
+    )
 
 returns : tie.Need-returns
 returns c = rw (widened _ (c .before .fits .x), minus c, toZ-ofZ (fits c))

@@ -1,4 +1,5 @@
--- `wrap` meets its contract: the mask leaves the low 32 bits, which are read as signed. Assumes nothing.
+-- `wrap` meets its contract: the mask leaves the low 32 bits, which are read as signed. Assumes
+-- nothing.
 use mathlib.Core.Path.{_≡_, refl, ap, _∙_}
 use native.Mathlib.Omega.{arith}
 use lib.Bits.{bitAnd}

@@ -34,8 +34,10 @@ returns c =
     let g = r .before .before .before .before .args in
     let s = g .script .now in
     let o = r .run-script .ensures in
-    let w = ap (λ (x : Answer). answerWords x (resultIn (r .run-script .last .1 .0))) (says-is (o .answer)) ∙ ap (λ (l : List ℤ). answerWords (scriptOf s lent .answer) (resultIn l)) (o .memory) ∙ program-words s in
-    subst (λ (ws : List ℕ). Answered ws (g .bytes .now) (a .answered .result) (a .answered .last .1 .1 .0)) w (a .answered .ensures)
+    let w = ap (λ (x : Answer). answerWords x (resultIn (r .run-script .last .1 .0))) (says-is (o .answer)) ∙
+    ap (λ (l : List ℤ). answerWords (scriptOf s lent .answer) (resultIn l)) (o .memory) ∙ program-words s in
+    subst (λ (ws : List ℕ). Answered ws (g .bytes .now) (a .answered .result) (a .answered .last .1 .1 .0)) w
+    (a .answered .ensures)
 
 pub answer-to-spec : {M : Type 1} → statement M
 answer-to-spec =

@@ -20,7 +20,12 @@ returns : tie.Need-returns
 returns c =
     let p = c .before in
     let r = p .before .before .run-script .ensures in
-    record { number = c .code .ensures ∙ r .answer .number; memory = r .memory; place = p .place .ensures ∙ r .answer .place }
+    record {
+      number = c .code .ensures ∙ r .answer .number;
+      memory = r .memory;
+      place = p .place .ensures ∙
+          r .answer .place;
+    }
 
 pub spoonglacier-run-spec : {M : Type 1} → statement M
 spoonglacier-run-spec =

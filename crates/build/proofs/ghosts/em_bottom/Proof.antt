@@ -18,7 +18,9 @@ ghost-at-requires c κs = search needs
 
 returns : tie.Need-returns
 unfolding emBottom
-returns c = rw (c .before .sub .ensures, c .before .before .round .ensures, c .before .before .before .mul .ensures) at (c .ghost-at .ensures)
+returns c =
+    rw (c .before .sub .ensures, c .before .before .round .ensures, c .before .before .before .mul .ensures) at
+    (c .ghost-at .ensures)
 
 pub em-bottom-spec : {M : Type 1} → statement M
 em-bottom-spec =

@@ -18,7 +18,9 @@ ghost-at-requires c κs = search needs
 
 returns : tie.Need-returns
 unfolding emTop
-returns c = rw (c .before .add .ensures, c .before .before .round .ensures, c .before .before .before .mul .ensures) at (c .ghost-at .ensures)
+returns c =
+    rw (c .before .add .ensures, c .before .before .round .ensures, c .before .before .before .mul .ensures) at
+    (c .ghost-at .ensures)
 
 pub em-top-spec : {M : Type 1} → statement M
 em-top-spec =

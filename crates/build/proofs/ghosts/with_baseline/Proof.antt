@@ -25,7 +25,8 @@ unfolding baselined
 returns c =
     let t = c .before .before .before .before .before in
     rw (sym (t .before .is-uncovered .ensures), t .if1 .taken)
-    (rw (c .before .choose .ensures, c .before .before .none .ensures, c .before .before .before .ghost-at .ensures) at (c .insert .ensures))
+    (rw (c .before .choose .ensures, c .before .before .none .ensures, c .before .before .before .ghost-at .ensures) at
+    (c .insert .ensures))
 
 returns-2 : tie.Need-returns-2
 unfolding baselined

@@ -34,7 +34,15 @@ returns c =
     let t = c .before .before in
     let b = t .before .before .before in
     rw (b .before .before .before .before .if1 .taken)
-    (simp (c .before .insert .ensures, t .choose2 .ensures, t .before .em-top .ensures, t .before .before .none2 .ensures, b .choose .ensures, b .before .none .ensures, b .before .before .em-bottom .ensures) at (c .insert2 .ensures))
+    (simp (
+      c .before .insert .ensures,
+      t .choose2 .ensures,
+      t .before .em-top .ensures,
+      t .before .before .none2 .ensures,
+      b .choose .ensures,
+      b .before .none .ensures,
+      b .before .before .em-bottom .ensures,
+    ) at (c .insert2 .ensures))
 
 returns-2 : tie.Need-returns-2
 unfolding emBoxed

@@ -1,4 +1,5 @@
--- `build_initial` meets its contract, by those of its calls; what it adjusts is in order. Assumes nothing.
+-- `build_initial` meets its contract, by those of its calls; what it adjusts is in order. Assumes
+-- nothing.
 use mathlib.Core.Path.{_≡_}
 use Rattle.hintmap.proofs.WholeStems.{Good}
 use Rattle.build.specs.Build.{initialPlaced, initialOf}
@@ -13,7 +14,9 @@ module _ (c : tie.After-place-locked) where
   begin = c .before .before .before .before
 
   placed : c .place-locked .result ≡ initialPlaced (begin .args .state) (begin .args .stems)
-  placed = rw (c .before .all .ensures, c .before .before .with-em-box .ensures, c .before .before .before .new .ensures) at (c .place-locked .ensures)
+  placed =
+      rw (c .before .all .ensures, c .before .before .with-em-box .ensures, c .before .before .before .new .ensures) at
+      (c .place-locked .ensures)
 
   good : Good (initialPlaced (begin .args .state) (begin .args .stems) .map)
   good = initial-placed-good (begin .args .state) (begin .args .stems)

@@ -1,4 +1,5 @@
--- `build_map` meets its contract, by those of its calls; what it adjusts and saves is in order. Assumes nothing.
+-- `build_map` meets its contract, by those of its calls; what it adjusts and saves is in order.
+-- Assumes nothing.
 use mathlib.Core.Path.{_≡_, ap}
 use Rattle.hintmap.proofs.WholeStems.{Good}
 use Rattle.build.specs.declared.place.Placed.{Placed}
@@ -13,8 +14,15 @@ module _ (c : tie.After-place-free) where
   abbrev begin : tie.Start
   begin = c .before .before .before .before
 
-  placed : c .place-free .result .map ≡ placedOf (begin .args .state) (begin .args .mask) (begin .args .initial) (begin .args .stems)
-  placed = ap (λ (q : Placed). q .map) (rw (c .before .place-locked .ensures, c .before .before .with-em-box .ensures, c .before .before .before .new .ensures) at (c .place-free .ensures))
+  placed : c .place-free .result .map ≡
+      placedOf (begin .args .state) (begin .args .mask) (begin .args .initial) (begin .args .stems)
+  placed =
+      ap (λ (q : Placed). q .map)
+      (rw (
+        c .before .place-locked .ensures,
+        c .before .before .with-em-box .ensures,
+        c .before .before .before .new .ensures,
+      ) at (c .place-free .ensures))
 
   good : Good (placedOf (begin .args .state) (begin .args .mask) (begin .args .initial) (begin .args .stems))
   good = placed-good (begin .args .state) (begin .args .mask) (begin .args .initial) (begin .args .stems)
@@ -38,7 +46,9 @@ validate-requires : tie.Need-validate-requires
 validate-requires c κs = search needs
 
 save-all-requires : tie.Need-save-all-requires
-save-all-requires c κs = rw (c .validate .ensures, c .before .adjust .ensures, placed (c .before .before .before)) (adjust-good _ (good (c .before .before .before)) .within)
+save-all-requires c κs =
+    rw (c .validate .ensures, c .before .adjust .ensures, placed (c .before .before .before))
+    (adjust-good _ (good (c .before .before .before)) .within)
 
 returns : tie.Need-returns
 unfolding builtOf

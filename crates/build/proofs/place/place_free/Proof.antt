@@ -1,5 +1,7 @@
--- `place_free` meets its contract. The loop's invariant: the turns that are left, taken from stem `i` on, give what all give.
--- What each way through a turn leaves is what the definition's turn gives. The measure is what is left of the count, which is cut to the room for stems. Assumes nothing.
+-- `place_free` meets its contract. The loop's invariant: the turns that are left, taken from stem
+-- `i` on, give what all give. What each way through a turn leaves is what the definition's turn
+-- gives. The measure is what is left of the count, which is cut to the room for stems. Assumes
+-- nothing.
 use mathlib.Core.Path.{_≡_, sym, ap, _∙_}
 use mathlib.Core.List.{List}
 use Prim.Native.Nat.{ℕ, _+_, _-_, _≤_, _<_}
@@ -18,7 +20,8 @@ use Rattle.build.proofs.place.place_free.Tie as tie
 
 abbrev Inv-loop : tie.InvT-loop
 Inv-loop state initial stems map₀ rest count i₀ map i =
-    Left (freeTurns state initial) stems count (record { map = map₀; rest = rest }) (record { map = map; rest = rest }) i
+    Left (freeTurns state initial) stems count (record { map = map₀; rest = rest }) (record { map = map; rest = rest })
+    i
 
 abbrev μ-loop : tie.MeasureT-loop
 μ-loop state initial stems map₀ rest count i₀ map i = count - i
@@ -35,7 +38,9 @@ module _ (c : tie.After-declared Inv-loop μ-loop) where
   few = omega (arith, room, c .declared .ensures)
 
   all : take (c .declared .result) (begin .args .t3 .list) ≡ declaredIn (begin .args .t3)
-  all = ap (λ (n : ℕ). take n (begin .args .t3 .list)) (c .declared .ensures) ∙ take-least (begin .args .t3 .count) 96 (begin .args .t3 .list) room
+  all =
+      ap (λ (n : ℕ). take n (begin .args .t3 .list)) (c .declared .ensures) ∙
+      take-least (begin .args .t3 .count) 96 (begin .args .t3 .list) room
 
 -- ---- the stem whose turn it is
 module _ (c : tie.In-loop Inv-loop μ-loop) where
@@ -52,15 +57,23 @@ module _ (c : tie.In-loop Inv-loop μ-loop) where
   inside = omega (arith, cut .declared .ensures)
 
   -- whatever its turn leaves, the turns after it are left
-  again : (q : Placed) → freeTurn (start .args .state) (start .args .initial) soFar (c .before .loop .i) (getD (start .args .t3 .list) (c .before .loop .i) noStem) ≡ q →
-      Left (freeTurns (start .args .state) (start .args .initial)) (start .args .t3) (cut .declared .result) (start .args .p) q (c .before .loop .i + 1)
-  again q = left-more (free-round (start .args .state) (start .args .initial)) (start .args .t3) (cut .declared .result) (few cut) _ soFar q (c .before .loop .i) noStem (omega arith) (c .before .loop .inv)
+  again : (q : Placed) → freeTurn (start .args .state) (start .args .initial) soFar (c .before .loop .i)
+      (getD (start .args .t3 .list) (c .before .loop .i) noStem) ≡ q →
+      Left (freeTurns (start .args .state) (start .args .initial)) (start .args .t3) (cut .declared .result)
+      (start .args .p) q (c .before .loop .i + 1)
+  again q =
+      left-more (free-round (start .args .state) (start .args .initial)) (start .args .t3) (cut .declared .result)
+      (few cut) _ soFar q (c .before .loop .i) noStem (omega arith) (c .before .loop .inv)
 
 declared-requires : tie.Need-declared-requires Inv-loop μ-loop
 declared-requires c κs = search needs
 
 loop-holds : tie.Need-loop-holds Inv-loop μ-loop
-loop-holds c = (ap (λ (l : List StemHint). freeTurns (begin c .args .state) (begin c .args .initial) 0 l (begin c .args .p)) (all c), search needs)
+loop-holds c = (
+  ap (λ (l : List StemHint). freeTurns (begin c .args .state) (begin c .args .initial) 0 l (begin c .args .p))
+      (all c),
+  search needs,
+)
 
 get-requires : tie.Need-get-requires Inv-loop μ-loop
 get-requires c κs = search needs
@@ -113,14 +126,22 @@ loop-again-2 c =
     let s = c .before .before in
     let e = s .before .before .before in
     let g = e .before in
-    again (g .before) _ (simp (sym (g .get .ensures), not-false (g .get .result) (e .if1 .left), sym (s .before .setup .ensures), sym (s .setup2 .ensures), sym (c .before .choose .ensures), sym (c .insert .ensures)))
+    again (g .before) _ (simp (
+      sym (g .get .ensures),
+      not-false (g .get .result) (e .if1 .left),
+      sym (s .before .setup .ensures),
+      sym (s .setup2 .ensures),
+      sym (c .before .choose .ensures),
+      sym (c .insert .ensures),
+    ))
 
 returns : tie.Need-returns Inv-loop μ-loop
 returns c =
     let at = c .before in
     let k = at .before in
     let s = begin k in
-    left-ends (free-round (s .args .state) (s .args .initial)) (s .args .t3) (k .declared .result) (few k) (s .args .p) _ (at .loop .i) (search needs) (at .loop .inv)
+    left-ends (free-round (s .args .state) (s .args .initial)) (s .args .t3) (k .declared .result) (few k) (s .args .p)
+    _ (at .loop .i) (search needs) (at .loop .inv)
 
 pub place-free-spec : {M : Type 1} → statement M
 place-free-spec =

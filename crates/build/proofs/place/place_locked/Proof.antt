@@ -1,5 +1,7 @@
--- `place_locked` meets its contract. The loop's invariant: the turns that are left, taken from stem `i` on, give what all give.
--- What each way through a turn leaves is what the definition's turn gives. The measure is what is left of the count, which is cut to the room for stems. Assumes nothing.
+-- `place_locked` meets its contract. The loop's invariant: the turns that are left, taken from stem
+-- `i` on, give what all give. What each way through a turn leaves is what the definition's turn
+-- gives. The measure is what is left of the count, which is cut to the room for stems. Assumes
+-- nothing.
 use mathlib.Core.Path.{_≡_, sym, ap, _∙_}
 use mathlib.Core.List.{List}
 use Prim.Native.Nat.{ℕ, _+_, _-_, _≤_, _<_}
@@ -18,7 +20,8 @@ use Rattle.build.proofs.place.place_locked.Tie as tie
 
 abbrev Inv-loop : tie.InvT-loop
 Inv-loop state initial given stems map₀ rest₀ count i₀ map rest i =
-    Left (lockedTurns state initial given) stems count (record { map = map₀; rest = rest₀ }) (record { map = map; rest = rest }) i
+    Left (lockedTurns state initial given) stems count (record { map = map₀; rest = rest₀ })
+    (record { map = map; rest = rest }) i
 
 abbrev μ-loop : tie.MeasureT-loop
 μ-loop state initial given stems map₀ rest₀ count i₀ map rest i = count - i
@@ -35,7 +38,9 @@ module _ (c : tie.After-declared Inv-loop μ-loop) where
   few = omega (arith, room, c .declared .ensures)
 
   all : take (c .declared .result) (begin .args .t3 .list) ≡ declaredIn (begin .args .t3)
-  all = ap (λ (n : ℕ). take n (begin .args .t3 .list)) (c .declared .ensures) ∙ take-least (begin .args .t3 .count) 96 (begin .args .t3 .list) room
+  all =
+      ap (λ (n : ℕ). take n (begin .args .t3 .list)) (c .declared .ensures) ∙
+      take-least (begin .args .t3 .count) 96 (begin .args .t3 .list) room
 
 -- ---- the stem whose turn it is
 module _ (c : tie.In-loop Inv-loop μ-loop) where
@@ -52,15 +57,23 @@ module _ (c : tie.In-loop Inv-loop μ-loop) where
   inside = omega (arith, cut .declared .ensures)
 
   -- whatever its turn leaves, the turns after it are left
-  again : (q : Placed) → lockedTurn (start .args .state) (start .args .initial) (start .args .given) soFar (c .before .loop .i) (getD (start .args .t3 .list) (c .before .loop .i) noStem) ≡ q →
-      Left (lockedTurns (start .args .state) (start .args .initial) (start .args .given)) (start .args .t3) (cut .declared .result) (start .args .p) q (c .before .loop .i + 1)
-  again q = left-more (locked-round (start .args .state) (start .args .initial) (start .args .given)) (start .args .t3) (cut .declared .result) (few cut) _ soFar q (c .before .loop .i) noStem (omega arith) (c .before .loop .inv)
+  again : (q : Placed) → lockedTurn (start .args .state) (start .args .initial) (start .args .given) soFar
+      (c .before .loop .i) (getD (start .args .t3 .list) (c .before .loop .i) noStem) ≡ q →
+      Left (lockedTurns (start .args .state) (start .args .initial) (start .args .given)) (start .args .t3)
+      (cut .declared .result) (start .args .p) q (c .before .loop .i + 1)
+  again q =
+      left-more (locked-round (start .args .state) (start .args .initial) (start .args .given)) (start .args .t3)
+      (cut .declared .result) (few cut) _ soFar q (c .before .loop .i) noStem (omega arith) (c .before .loop .inv)
 
 declared-requires : tie.Need-declared-requires Inv-loop μ-loop
 declared-requires c κs = search needs
 
 loop-holds : tie.Need-loop-holds Inv-loop μ-loop
-loop-holds c = (ap (λ (l : List StemHint). lockedTurns (begin c .args .state) (begin c .args .initial) (begin c .args .given) 0 l (begin c .args .p)) (all c), search needs)
+loop-holds c = (
+  ap (λ (l : List StemHint). lockedTurns (begin c .args .state) (begin c .args .initial) (begin c .args .given) 0 l
+      (begin c .args .p)) (all c),
+  search needs,
+)
 
 get-requires : tie.Need-get-requires Inv-loop μ-loop
 get-requires c κs = search needs
@@ -101,7 +114,12 @@ loop-again-2 c =
     let r = c .before .before in
     let e = r .before .before in
     let g = e .before in
-    again (g .before) _ (simp (sym (g .get .ensures), not-false (g .get .result) (e .if1 .left), sym (r .prepared .ensures), not-true (r .prepared .result .captured) (c .if2 .taken)))
+    again (g .before) _ (simp (
+      sym (g .get .ensures),
+      not-false (g .get .result) (e .if1 .left),
+      sym (r .prepared .ensures),
+      not-true (r .prepared .result .captured) (c .if2 .taken),
+    ))
 
 choose-requires : tie.Need-choose-requires Inv-loop μ-loop
 choose-requires c κs = search needs
@@ -113,7 +131,8 @@ clear-requires : tie.Need-clear-requires Inv-loop μ-loop
 clear-requires c κs = search needs
 
 add-i-3 : tie.Need-add-i-3 Inv-loop μ-loop
-add-i-3 c = omega (arith, inside (c .before .before .before .before .before .before .before .before .before .before .before))
+add-i-3 c =
+    omega (arith, inside (c .before .before .before .before .before .before .before .before .before .before .before))
 
 loop-less-3 : tie.Need-loop-less-3 Inv-loop μ-loop
 loop-less-3 c = search needs
@@ -126,14 +145,23 @@ loop-again-3 c =
     let r = f .before .before in
     let e = r .before .before in
     let g = e .before in
-    again (g .before) _ (simp (sym (g .get .ensures), not-false (g .get .result) (e .if1 .left), sym (r .prepared .ensures), not-false (r .prepared .result .captured) (f .if2 .left), sym (o .choose .ensures), sym (c .before .insert .ensures), sym (c .clear .ensures)))
+    again (g .before) _ (simp (
+      sym (g .get .ensures),
+      not-false (g .get .result) (e .if1 .left),
+      sym (r .prepared .ensures),
+      not-false (r .prepared .result .captured) (f .if2 .left),
+      sym (o .choose .ensures),
+      sym (c .before .insert .ensures),
+      sym (c .clear .ensures),
+    ))
 
 returns : tie.Need-returns Inv-loop μ-loop
 returns c =
     let at = c .before in
     let k = at .before in
     let s = begin k in
-    left-ends (locked-round (s .args .state) (s .args .initial) (s .args .given)) (s .args .t3) (k .declared .result) (few k) (s .args .p) _ (at .loop .i) (search needs) (at .loop .inv)
+    left-ends (locked-round (s .args .state) (s .args .initial) (s .args .given)) (s .args .t3) (k .declared .result)
+    (few k) (s .args .p) _ (at .loop .i) (search needs) (at .loop .inv)
 
 pub place-locked-spec : {M : Type 1} → statement M
 place-locked-spec =

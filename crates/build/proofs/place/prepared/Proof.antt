@@ -13,7 +13,8 @@ use Rattle.build.proofs.place.prepared.Statement.{statement}
 use Rattle.build.proofs.place.prepared.Tie as tie
 
 -- what is asked for, by the edges and whether they are locked
-module _ (st : HintState) (stem : StemHint) (i : ℕ) (b t : Hint) (p : b ≡ setupOf stem i (st .scale) Bottom) (q : t ≡ setupOf stem i (st .scale) Top) where
+module _ (st : HintState) (stem : StemHint) (i : ℕ) (b t : Hint) (p : b ≡ setupOf stem i (st .scale) Bottom)
+    (q : t ≡ setupOf stem i (st .scale) Top) where
   prepared-by : (u v : Bool) → b .locked ≡ u → t .locked ≡ v → preparedOf st stem i ≡ preparedBy (u || v) st b t
   unfolding preparedOf
   prepared-by u v x y = rw (sym p, sym q, x, y)
@@ -30,7 +31,8 @@ is-locked-requires c κs = search needs
 returns : tie.Need-returns
 returns c =
     let e = c .before .before in
-    sym (prepared-by _ _ _ _ _ (e .before .setup .ensures) (e .setup2 .ensures) true _ (sym (c .before .is-locked .ensures) ∙ c .if1 .taken) refl)
+    sym (prepared-by _ _ _ _ _ (e .before .setup .ensures) (e .setup2 .ensures) true
+    _ (sym (c .before .is-locked .ensures) ∙ c .if1 .taken) refl)
 
 is-locked-requires-2 : tie.Need-is-locked-requires-2
 is-locked-requires-2 c κs = search needs
@@ -39,7 +41,8 @@ returns-2 : tie.Need-returns-2
 returns-2 c =
     let l = c .before .before in
     let e = l .before .before in
-    sym (prepared-by _ _ _ _ _ (e .before .setup .ensures) (e .setup2 .ensures) false true (sym (l .before .is-locked .ensures) ∙ l .if1 .left) (sym (c .before .is-locked2 .ensures) ∙ c .if2 .taken))
+    sym (prepared-by _ _ _ _ _ (e .before .setup .ensures) (e .setup2 .ensures) false true
+    (sym (l .before .is-locked .ensures) ∙ l .if1 .left) (sym (c .before .is-locked2 .ensures) ∙ c .if2 .taken))
 
 capture-requires : tie.Need-capture-requires
 capture-requires c κs = search needs
@@ -49,7 +52,8 @@ returns-3 c =
     let f = c .before in
     let l = f .before .before in
     let e = l .before .before in
-    c .capture .ensures ∙ sym (prepared-by _ _ _ _ _ (e .before .setup .ensures) (e .setup2 .ensures) false false (sym (l .before .is-locked .ensures) ∙ l .if1 .left) (sym (f .before .is-locked2 .ensures) ∙ f .if2 .left))
+    c .capture .ensures ∙ sym (prepared-by _ _ _ _ _ (e .before .setup .ensures) (e .setup2 .ensures) false false
+    (sym (l .before .is-locked .ensures) ∙ l .if1 .left) (sym (f .before .is-locked2 .ensures) ∙ f .if2 .left))
 
 pub prepared-spec : {M : Type 1} → statement M
 prepared-spec =

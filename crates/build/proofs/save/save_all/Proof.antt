@@ -1,5 +1,7 @@
--- `save::save_all` meets its contract. The loop's invariant: the edges from `i` on, saved in the stems so far, give what all edges give saved in the first stems.
--- No list of stems grows, and a number past it changes nothing in the definition either. The measure is what is left of the count. Assumes nothing.
+-- `save::save_all` meets its contract. The loop's invariant: the edges from `i` on, saved in the
+-- stems so far, give what all edges give saved in the first stems. No list of stems grows, and a
+-- number past it changes nothing in the definition either. The measure is what is left of the
+-- count. Assumes nothing.
 use mathlib.Core.Path.{_≡_, refl, sym, ap, _∙_}
 use mathlib.Core.Logic.{⊎-elim}
 use Prim.Native.Nat.{_+_, _-_, _≤_, _<_}
@@ -17,7 +19,8 @@ use Rattle.build.proofs.save.save_all.Statement.{statement}
 use Rattle.build.proofs.save.save_all.Tie as tie
 
 abbrev Inv-loop : tie.InvT-loop
-Inv-loop map after₀ len i₀ after i = (i ≤ map .len) × ((length (after .list) ≤ 96) × (savedAll (view map) after₀ ≡ savedAll (drop i (view map)) after))
+Inv-loop map after₀ len i₀ after i =
+    (i ≤ map .len) × ((length (after .list) ≤ 96) × (savedAll (view map) after₀ ≡ savedAll (drop i (view map)) after))
 
 abbrev μ-loop : tie.MeasureT-loop
 μ-loop map after₀ len i₀ after i = map .len - i
@@ -32,7 +35,8 @@ module _ (c : tie.In-loop Inv-loop μ-loop) where
   edge = getD (c .before .before .args .t2 .edges) (c .before .loop .i) noHint
 
   -- whatever the stems become by it, the edges after it are left
-  again : (n : Stems) → savedIn edge (c .before .loop .after) ≡ n → Inv-loop (c .before .before .args .t2) (c .before .before .args .stems) 0 0 n (c .before .loop .i + 1)
+  again : (n : Stems) → savedIn edge (c .before .loop .after) ≡ n →
+      Inv-loop (c .before .before .args .t2) (c .before .before .args .stems) 0 0 n (c .before .loop .i + 1)
   again n e =
       let at = c .before .loop in
       let m = c .before .before .args .t2 in
@@ -41,7 +45,8 @@ module _ (c : tie.In-loop Inv-loop μ-loop) where
         (
           rw (← e, in-length edge (at .after)) (at .inv .1 .0),
           at .inv .1 .1 ∙ save-more (view m) (at .after) (at .i) h ∙
-              ap (λ x. savedAll (drop (at .i + 1) (view m)) (savedIn x (at .after))) (getD-take (m .len) (m .edges) (at .i) noHint (omega arith)) ∙
+              ap (λ x. savedAll (drop (at .i + 1) (view m)) (savedIn x (at .after)))
+              (getD-take (m .len) (m .edges) (at .i) noHint (omega arith)) ∙
               ap (savedAll (drop (at .i + 1) (view m))) e,
         ),
       )
@@ -99,7 +104,8 @@ loop-again-2 c =
     let i = e .before .before .before in
     again i _
     (⊎-elim
-    (λ w. sym (save-stem (edge i) _ _ (sym (e .before .is-synthetic .ensures) ∙ e .if1 .left) (w .2 .ensures)) ∙ sym (w .3))
+    (λ w. sym (save-stem (edge i) _ _ (sym (e .before .is-synthetic .ensures) ∙ e .if1 .left) (w .2 .ensures)) ∙
+    sym (w .3))
     (λ w. save-past (edge i) _ (omega (arith, w .0 .left, i .before .loop .inv .1 .0)) ∙ sym (w .1))
     (c .if2 .came))
 

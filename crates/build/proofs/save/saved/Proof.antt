@@ -1,4 +1,5 @@
--- `save::saved` meets its contract: the stem is used, and has the edge's height on the edge's side. Assumes nothing.
+-- `save::saved` meets its contract: the stem is used, and has the edge's height on the edge's side.
+-- Assumes nothing.
 use borrow.Author.Needs.{needs}
 use Rattle.build.proofs.save.saved.Statement.{statement}
 use Rattle.build.proofs.save.saved.Tie as tie

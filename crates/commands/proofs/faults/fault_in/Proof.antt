@@ -1,4 +1,5 @@
--- `fault_in` finds a bad command and a mask past its bytes, and nothing wrong with the others. Assumes nothing.
+-- `fault_in` finds a bad command and a mask past its bytes, and nothing wrong with the others.
+-- Assumes nothing.
 use borrow.Author.Needs.{needs}
 use Rattle.words.specs.Rows.{firstOr}
 use Rattle.commands.proofs.faults.fault_in.Statement.{statement}
@@ -48,11 +49,15 @@ returns-3 c = rw (c .before .before .before .command .given .1, c .enum-told3 .g
 
 returns-4 : tie.Need-returns-4
 unfolding firstOr
-returns-4 c = rw (c .before .before .before .before .before .command .given .1, c .before .before .marking .given .1) (c .mask-fault .ensures)
+returns-4 c =
+    rw (c .before .before .before .before .before .command .given .1, c .before .before .marking .given .1)
+    (c .mask-fault .ensures)
 
 returns-5 : tie.Need-returns-5
 unfolding firstOr
-returns-5 c = rw (c .before .before .before .before .before .command .given .1, c .before .before .marking2 .given .1) (c .mask-fault2 .ensures)
+returns-5 c =
+    rw (c .before .before .before .before .before .command .given .1, c .before .before .marking2 .given .1)
+    (c .mask-fault2 .ensures)
 
 returns-6 : tie.Need-returns-6
 unfolding firstOr

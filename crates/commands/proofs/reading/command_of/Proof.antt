@@ -89,7 +89,13 @@ returns-6 c = rw (c .before .match .keys6, c .point2 .ensures)
 
 returns-7 : tie.Need-returns-7
 unfolding commandOf
-returns-7 c = rw (c .before .before .before .match .keys7, c .before .before .point3 .ensures, c .before .point4 .ensures, c .point5 .ensures)
+returns-7 c =
+    rw (
+      c .before .before .before .match .keys7,
+      c .before .before .point3 .ensures,
+      c .before .point4 .ensures,
+      c .point5 .ensures,
+    )
 
 returns-8 : tie.Need-returns-8
 unfolding commandOf
@@ -103,7 +109,17 @@ returns-10 : tie.Need-returns-10
 unfolding commandOf
 returns-10 c =
     let r = c .match .rest in
-    rw (ne-eqb _ _ (r .0 .0 .0 .0 .0 .0 .0 .0 .1), ne-eqb _ _ (r .0 .0 .0 .0 .0 .0 .0 .1), ne-eqb _ _ (r .0 .0 .0 .0 .0 .0 .1), ne-eqb _ _ (r .0 .0 .0 .0 .0 .1), ne-eqb _ _ (r .0 .0 .0 .0 .1), ne-eqb _ _ (r .0 .0 .0 .1), ne-eqb _ _ (r .0 .0 .1), ne-eqb _ _ (r .0 .1), ne-eqb _ _ (r .1))
+    rw (
+      ne-eqb _ _ (r .0 .0 .0 .0 .0 .0 .0 .0 .1),
+      ne-eqb _ _ (r .0 .0 .0 .0 .0 .0 .0 .1),
+      ne-eqb _ _ (r .0 .0 .0 .0 .0 .0 .1),
+      ne-eqb _ _ (r .0 .0 .0 .0 .0 .1),
+      ne-eqb _ _ (r .0 .0 .0 .0 .1),
+      ne-eqb _ _ (r .0 .0 .0 .1),
+      ne-eqb _ _ (r .0 .0 .1),
+      ne-eqb _ _ (r .0 .1),
+      ne-eqb _ _ (r .1),
+    )
 
 pub command-of-spec : {M : Type 1} → statement M
 command-of-spec =

@@ -33,8 +33,17 @@ returns-6 c = (sym (ap operandsOf (c .match .keys6)), omega arith)
 returns-7 : tie.Need-returns-7
 unfolding operandsOf
 returns-7 c =
-    let r = c .match .rest in
-    (rw (ne-eqb _ _ (r .0 .0 .0 .0 .0 .1), ne-eqb _ _ (r .0 .0 .0 .0 .1), ne-eqb _ _ (r .0 .0 .0 .1), ne-eqb _ _ (r .0 .0 .1), ne-eqb _ _ (r .0 .1), ne-eqb _ _ (r .1)), omega arith)
+    let r = c .match .rest in (
+      rw (
+        ne-eqb _ _ (r .0 .0 .0 .0 .0 .1),
+        ne-eqb _ _ (r .0 .0 .0 .0 .1),
+        ne-eqb _ _ (r .0 .0 .0 .1),
+        ne-eqb _ _ (r .0 .0 .1),
+        ne-eqb _ _ (r .0 .1),
+        ne-eqb _ _ (r .1),
+      ),
+      omega arith,
+    )
 
 pub operands-spec : {M : Type 1} → statement M
 operands-spec =

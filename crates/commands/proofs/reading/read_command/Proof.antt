@@ -1,4 +1,5 @@
--- `read_command` gives the command of the kind that it reads, or a bad one where the operands are cut off. Assumes nothing.
+-- `read_command` gives the command of the kind that it reads, or a bad one where the operands are
+-- cut off. Assumes nothing.
 use mathlib.Core.Path.{ap, _∙_}
 use Prim.Native.Nat.{_≤_, _<_}
 use native.Mathlib.Omega.{arith}

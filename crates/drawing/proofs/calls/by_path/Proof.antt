@@ -1,4 +1,5 @@
--- `by_path` meets its contract: what `draw` drew by a valid map, or by ready hints, is the call of the path. Assumes nothing.
+-- `by_path` meets its contract: what `draw` drew by a valid map, or by ready hints, is the call of
+-- the path. Assumes nothing.
 use mathlib.Core.Path.{ap, _∙_}
 use borrow.Author.Needs.{needs}
 use Rattle.hints.specs.declared.hints.Hints.{Hints}
@@ -40,8 +41,11 @@ returns-2 c =
     let s = r .before .before .before .before in
     let a = s .args in
     let h = r .ready .ensures ∙ point-hints (a .state) (a .drawing) (a .path) (s .pre) in
-    drawn-called (a .state) (a .drawing) (draw (a .path)) h (ap (λ (k : Hints). strokeBy (k .map) (a .state .scale) (a .drawing .pen) (a .path)) h) (w .draw2 .ensures) (c .settle .ensures)
+    drawn-called (a .state) (a .drawing) (draw (a .path)) h
+    (ap (λ (k : Hints). strokeBy (k .map) (a .state .scale) (a .drawing .pen) (a .path)) h) (w .draw2 .ensures)
+    (c .settle .ensures)
 
 pub by-path-spec : {M : Type 1} → statement M
 by-path-spec =
-    tie.close (tie.spec draw-requires same-length returns ready-requires draw-requires-2 settle-requires same-length-2 returns-2)
+    tie.close (tie.spec draw-requires same-length returns ready-requires draw-requires-2 settle-requires same-length-2
+    returns-2)

@@ -12,7 +12,9 @@ with-hints-requires : tie.Need-with-hints-requires
 with-hints-requires c κs = search needs
 
 returns : tie.Need-returns
-returns c = c .with-hints .ensures ∙ ap (λ (h : Hints). record { hints = h; pen = c .before .before .args .drawing .pen }) (c .before .new .ensures)
+returns c =
+    c .with-hints .ensures ∙ ap (λ (h : Hints). record { hints = h; pen = c .before .before .args .drawing .pen })
+    (c .before .new .ensures)
 
 pub clear-hints-spec : {M : Type 1} → statement M
 clear-hints-spec = tie.close (tie.spec new-requires with-hints-requires returns)

@@ -12,7 +12,10 @@ with-hints-requires : tie.Need-with-hints-requires
 with-hints-requires c κs = search needs
 
 returns : tie.Need-returns
-returns c = c .with-hints .ensures ∙ ap (λ (h : Hints). record { hints = h; pen = c .before .before .before .args .drawing .pen }) (c .before .counter .ensures)
+returns c =
+    c .with-hints .ensures ∙
+    ap (λ (h : Hints). record { hints = h; pen = c .before .before .before .args .drawing .pen })
+    (c .before .counter .ensures)
 
 pub counter-mask-spec : {M : Type 1} → statement M
 counter-mask-spec = tie.close (tie.spec counter-requires with-hints-requires returns)

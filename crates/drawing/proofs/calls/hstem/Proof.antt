@@ -12,7 +12,10 @@ with-hints-requires : tie.Need-with-hints-requires
 with-hints-requires c κs = search needs
 
 returns : tie.Need-returns
-returns c = c .with-hints .ensures ∙ ap (λ (h : Hints). record { hints = h; pen = c .before .before .before .args .drawing .pen }) (c .before .with-stem .ensures)
+returns c =
+    c .with-hints .ensures ∙
+    ap (λ (h : Hints). record { hints = h; pen = c .before .before .before .args .drawing .pen })
+    (c .before .with-stem .ensures)
 
 pub hstem-spec : {M : Type 1} → statement M
 hstem-spec = tie.close (tie.spec with-stem-requires with-hints-requires returns)

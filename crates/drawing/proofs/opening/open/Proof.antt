@@ -52,7 +52,11 @@ returns-2 : tie.Need-returns-2
 unfolding openOf
 returns-2 c =
     let f = c .before .before in
-    opens (rw (large (f .before), sym (f .counts-fit .ensures), not-true (f .counts-fit .result) (c .before .if2 .taken)) (c .refused2 .ensures))
+    opens (rw (
+      large (f .before),
+      sym (f .counts-fit .ensures),
+      not-true (f .counts-fit .result) (c .before .if2 .taken),
+    ) (c .refused2 .ensures))
 
 -- and the counts fit
 fit : (c : tie.Else2) → countsFit (c .before .before .before .before .before .args .params) ≡ true
@@ -66,7 +70,13 @@ new-drawing-requires c κs = search needs
 
 returns-3 : tie.Need-returns-3
 unfolding openOf
-returns-3 c = opens (rw (c .new-drawing .ensures, c .before .new .ensures, large (c .before .before .before .before), fit (c .before .before)))
+returns-3 c =
+    opens (rw (
+      c .new-drawing .ensures,
+      c .before .new .ensures,
+      large (c .before .before .before .before),
+      fit (c .before .before),
+    ))
 
 pub open-spec : {M : Type 1} → statement M
 open-spec =

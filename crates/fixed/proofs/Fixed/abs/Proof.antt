@@ -22,7 +22,8 @@ returns : tie.Need-returns
 unfolding absF negF
 returns c =
     let l = c .before .before in
-    c .neg .ensures ∙ ap wrapF (abs-below (l .before .args .self .bits) (sym (l .less .ensures) ∙ c .before .if1 .taken))
+    c .neg .ensures ∙ ap wrapF
+    (abs-below (l .before .args .self .bits) (sym (l .less .ensures) ∙ c .before .if1 .taken))
 
 returns-2 : tie.Need-returns-2
 unfolding absF

@@ -1,4 +1,5 @@
--- `Fixed::add` meets its contract: the bits of both, summed without a sign, have the low bits of the sum. Assumes nothing.
+-- `Fixed::add` meets its contract: the bits of both, summed without a sign, have the low bits of
+-- the sum. Assumes nothing.
 use mathlib.Core.Path.{ap, _∙_}
 use mir.Syntax.{w32}
 use mir.Val.{SFits}
@@ -36,8 +37,10 @@ returns c =
     let w = c .before in
     let b = w .before .before .before in
     let s = b .before .before in
-    let e = simp (w .before .bits-of2 .ensures, b .bits-of .ensures, toZ-ofZ (fs s), toZ-ofZ (fb s)) at (w .wrapping-add-u32 .ensures) in
-    ap fromBits (read w32 (c .signed .result) (c .signed .ok) ∙ c .signed .ensures ∙ ap signed (e ∙ low-add _ _ (wide (fs s)) (wide (fb s)) (add-fits (fs s) (fb s))))
+    let e = simp (w .before .bits-of2 .ensures, b .bits-of .ensures, toZ-ofZ (fs s), toZ-ofZ (fb s)) at
+    (w .wrapping-add-u32 .ensures) in
+    ap fromBits (read w32 (c .signed .result) (c .signed .ok) ∙ c .signed .ensures ∙
+    ap signed (e ∙ low-add _ _ (wide (fs s)) (wide (fb s)) (add-fits (fs s) (fb s))))
 
 pub add-spec : {M : Type 1} → statement M
 add-spec = tie.close (tie.spec bits-of-requires bits-of-requires-2 wrapping-add-u32-requires signed-requires returns)

@@ -1,4 +1,5 @@
--- `Fixed::div` meets its contract: a divisor of 0 by the dividend's sign, any other, by its own sign, with that of `ratio`. Assumes nothing.
+-- `Fixed::div` meets its contract: a divisor of 0 by the dividend's sign, any other, by its own
+-- sign, with that of `ratio`. Assumes nothing.
 use borrow.Author.Needs.{needs}
 use mathlib.Core.Path.{_≡_, ap, _∙_}
 use mathlib.Core.Bool.{true, false}
@@ -10,7 +11,8 @@ use mir.Facts.{toZ-ofZ}
 use Rattle.fixed.specs.Integers.{lowBits, signed, wrap32}
 use Rattle.fixed.specs.Fixed.{fromBits, wrapF, negF, divF}
 use Rattle.fixed.proofs.Bits.{read}
-use Rattle.fixed.proofs.Nearest.{size-below, size-above, over-zero, over-zero-below, over-zero-above, over-below, over-above}
+use Rattle.fixed.proofs.Nearest.{size-below, size-above, over-zero, over-zero-below, over-zero-above, over-below}
+use Rattle.fixed.proofs.Nearest.{over-above}
 use Rattle.fixed.proofs.Fixed.div.Statement.{statement}
 use Rattle.fixed.proofs.Fixed.div.Tie as tie
 
@@ -53,7 +55,8 @@ unfolding divF negF
 returns c =
     let s = c .before .before .before .before .before .before .before in
     let zero : ofZ w32 (s .args .b .bits) ≡ 0 = search needs in
-    c .neg .ensures ∙ ap wrapF (over-zero-below _ (rw (toZ-ofZ (fs s)) at (c .before .if2 .taken)) ∙ over-zero _ _ (fb s) zero)
+    c .neg .ensures ∙ ap wrapF
+    (over-zero-below _ (rw (toZ-ofZ (fs s)) at (c .before .if2 .taken)) ∙ over-zero _ _ (fb s) zero)
 
 returns-2 : tie.Need-returns-2
 unfolding divF wrap32 signed lowBits
@@ -72,19 +75,23 @@ returns-3 : tie.Need-returns-3
 unfolding divF
 returns-3 c =
     let size = c .before .before in
-    ap fromBits (read w32 (c .ratio .result) (c .ratio .ok) ∙ c .ratio .ensures ∙ rw (toZ-ofZ (fs (begin size)), divisor size) (ap wrap32 (over-below _ _ (below size))))
+    ap fromBits (read w32 (c .ratio .result) (c .ratio .ok) ∙ c .ratio .ensures ∙
+    rw (toZ-ofZ (fs (begin size)), divisor size) (ap wrap32 (over-below _ _ (below size))))
 
 size-requires-2 : tie.Need-size-requires-2
 size-requires-2 c κs = search needs
 
 ratio-requires-2 : tie.Need-ratio-requires-2
-ratio-requires-2 c κs = rw (divisor-2 (c .before)) (size-above (begin-2 (c .before) .args .b .bits) (nonzero (c .before)) (above (c .before)))
+ratio-requires-2 c κs =
+    rw (divisor-2 (c .before))
+    (size-above (begin-2 (c .before) .args .b .bits) (nonzero (c .before)) (above (c .before)))
 
 returns-4 : tie.Need-returns-4
 unfolding divF
 returns-4 c =
     let size = c .before .before in
-    ap fromBits (read w32 (c .ratio2 .result) (c .ratio2 .ok) ∙ c .ratio2 .ensures ∙ rw (toZ-ofZ (fs (begin-2 size)), divisor-2 size) (ap wrap32 (over-above _ _ (nonzero size) (above size))))
+    ap fromBits (read w32 (c .ratio2 .result) (c .ratio2 .ok) ∙ c .ratio2 .ensures ∙
+    rw (toZ-ofZ (fs (begin-2 size)), divisor-2 size) (ap wrap32 (over-above _ _ (nonzero size) (above size))))
 
 pub div-spec : {M : Type 1} → statement M
 div-spec =

@@ -16,7 +16,9 @@ module _ (s : tie.Start) where
 
 returns : tie.Need-returns
 unfolding fractF
-returns c = ap fromBits (ap (toZ w32) (masked 16 16 refl _ (fs (c .before .before))) ∙ toZ-pos w32 (omega (arith, low-lt 16 (c .before .before .args .self .bits))))
+returns c =
+    ap fromBits (ap (toZ w32) (masked 16 16 refl _ (fs (c .before .before))) ∙
+    toZ-pos w32 (omega (arith, low-lt 16 (c .before .before .args .self .bits))))
 
 pub fract-spec : {M : Type 1} → statement M
 fract-spec = tie.close (tie.spec returns)

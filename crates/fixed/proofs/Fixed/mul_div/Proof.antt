@@ -1,4 +1,5 @@
--- `Fixed::mul_div` meets its contract, by that of `ratio`; the divisor's size is above 0 since the divisor is. Assumes nothing.
+-- `Fixed::mul_div` meets its contract, by that of `ratio`; the divisor's size is above 0 since the
+-- divisor is. Assumes nothing.
 use borrow.Author.Needs.{needs}
 use mathlib.Core.Path.{_≡_, ap, _∙_}
 use lib.IntN.{natAbs}
@@ -36,7 +37,8 @@ returns : tie.Need-returns
 unfolding mulDivF
 returns c =
     let s = c .before .before .before .before .before in
-    ap fromBits (read w32 (c .ratio .result) (c .ratio .ok) ∙ c .ratio .ensures ∙ simp (toZ-ofZ (fs s), toZ-ofZ (fb s), divisor (c .before .before .before)))
+    ap fromBits (read w32 (c .ratio .result) (c .ratio .ok) ∙ c .ratio .ensures ∙
+    simp (toZ-ofZ (fs s), toZ-ofZ (fb s), divisor (c .before .before .before)))
 
 pub mul-div-spec : {M : Type 1} → statement M
 mul-div-spec = tie.close (tie.spec size-requires ratio-requires returns)

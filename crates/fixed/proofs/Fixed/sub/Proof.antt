@@ -1,4 +1,5 @@
--- `Fixed::sub` meets its contract: what is added to the bits of one to give those of the other has the low bits of the difference. Assumes nothing.
+-- `Fixed::sub` meets its contract: what is added to the bits of one to give those of the other has
+-- the low bits of the difference. Assumes nothing.
 use mathlib.Core.Path.{ap, _∙_}
 use native.Mathlib.Omega.{arith}
 use mir.Syntax.{w32}
@@ -36,8 +37,10 @@ returns c =
     let w = c .before in
     let b = w .before .before .before in
     let s = b .before .before in
-    let e = simp (w .before .bits-of2 .ensures, b .bits-of .ensures, toZ-ofZ (fs s), toZ-ofZ (fb s)) at (w .wrapping-sub-u32 .ensures) in
-    ap fromBits (read w32 (c .signed .result) (c .signed .ok) ∙ c .signed .ensures ∙ ap signed (low-sub _ _ _ (fs s) (fb s) (omega (arith, w .wrapping-sub-u32 .ok)) e))
+    let e = simp (w .before .bits-of2 .ensures, b .bits-of .ensures, toZ-ofZ (fs s), toZ-ofZ (fb s)) at
+    (w .wrapping-sub-u32 .ensures) in
+    ap fromBits (read w32 (c .signed .result) (c .signed .ok) ∙ c .signed .ensures ∙
+    ap signed (low-sub _ _ _ (fs s) (fb s) (omega (arith, w .wrapping-sub-u32 .ok)) e))
 
 pub sub-spec : {M : Type 1} → statement M
 sub-spec = tie.close (tie.spec bits-of-requires bits-of-requires-2 wrapping-sub-u32-requires signed-requires returns)

@@ -1,4 +1,5 @@
--- `all_zero` meets its contract. The loop's invariant: whether the bytes from `at` on are zeros is whether those from `i` on are. Assumes nothing.
+-- `all_zero` meets its contract. The loop's invariant: whether the bytes from `at` on are zeros is
+-- whether those from `i` on are. Assumes nothing.
 use mathlib.Core.Path.{_≡_, refl, sym, _∙_, ap}
 use Prim.Native.Nat.{_-_, _≤_, _<_}
 use native.Mathlib.Numerals.{add-one}

@@ -1,4 +1,5 @@
--- `check_header` makes the tests of `headerRows` in their order: one that holds gives the answer, and one that does not is passed. Assumes nothing.
+-- `check_header` makes the tests of `headerRows` in their order: one that holds gives the answer,
+-- and one that does not is passed. Assumes nothing.
 use mathlib.Core.Path.{_≡_, refl, sym, _∙_, ap}
 use mathlib.Core.Bool.{not}
 use mathlib.Core.List.{List}
@@ -51,22 +52,29 @@ unfolding headerRows
 at6 c =
     let s = script5 (c .before .before .before .before) in
     let l = sized5 (c .before .before .before .before) in
-    pass 5 (at5 (c .before .before)) (before-end (rawAt s 5) (length s / 4) (rawAt s 4 + rawAt s 5) (omega arith) (omega arith))
+    pass 5 (at5 (c .before .before))
+    (before-end (rawAt s 5) (length s / 4) (rawAt s 4 + rawAt s 5) (omega arith) (omega arith))
 
 at7 : (c : tie.Else8) → Past (headerRows (script5 (c .before .before .before .before .before .before))) 7
 unfolding headerRows
 at7 c = pass 6 (at6 (c .before .before)) (omega tests)
 
-at8 : (c : tie.Else9) → Past (headerRows (script5 (c .before .before .before .before .before .before .before .before))) 8
+at8 : (c : tie.Else9) → Past (headerRows (script5 (c .before .before .before .before .before .before .before .before)))
+    8
 unfolding headerRows
 at8 c =
     let s = script5 (c .before .before .before .before .before .before .before .before) in
     let l = sized5 (c .before .before .before .before .before .before .before .before) in
-    pass 7 (at7 (c .before .before)) (at-end (rawAt s 7) (rawAt s 6 + padded (rawAt s 7)) (length s / 4) (omega arith) (omega arith))
+    pass 7 (at7 (c .before .before))
+    (at-end (rawAt s 7) (rawAt s 6 + padded (rawAt s 7)) (length s / 4) (omega arith) (omega arith))
 
 -- the padding, at the words that it is read from
-zeros : (c : tie.After-all-zero) → let s = script5 (c .before .before .before .before .before .before .before .before .before) in allZero (drop (4 * rawAt s 6 + rawAt s 7) s) ≡ c .all-zero .result
-zeros c = sym (rw (c .before .before .natural7 .ensures .0, c .before .before .before .before .natural6 .ensures .0) at (c .all-zero .ensures))
+zeros : (c : tie.After-all-zero) →
+    let s = script5 (c .before .before .before .before .before .before .before .before .before) in
+    allZero (drop (4 * rawAt s 6 + rawAt s 7) s) ≡ c .all-zero .result
+zeros c =
+    sym (rw (c .before .before .natural7 .ensures .0, c .before .before .before .before .natural6 .ensures .0) at
+    (c .all-zero .ensures))
 
 length-bad-requires : tie.Need-length-bad-requires
 length-bad-requires c κs = search needs

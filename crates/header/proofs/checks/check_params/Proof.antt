@@ -1,4 +1,5 @@
--- `check_params` makes the tests of `paramRows` in their order: one that holds gives the answer, and one that does not is passed. Assumes nothing.
+-- `check_params` makes the tests of `paramRows` in their order: one that holds gives the answer,
+-- and one that does not is passed. Assumes nothing.
 use mathlib.Core.Path.{refl, sym}
 use mathlib.Core.List.{List}
 use Prim.Native.Nat.{ℕ}
@@ -23,7 +24,9 @@ script c = c .before .before .before .before .before .args .script .now
 
 at1 : (c : tie.Else1) → Past (paramRows (rawAt (script c))) 1
 unfolding paramRows
-at1 c = pass 0 (record { rest = refl }) (rw (toZ-ofZ (fits (c .before)), c .before .before .before .number .ensures) at (c .if1 .left))
+at1 c =
+    pass 0 (record { rest = refl })
+    (rw (toZ-ofZ (fits (c .before)), c .before .before .before .number .ensures) at (c .if1 .left))
 
 at2 : (c : tie.Else2) → Past (paramRows (rawAt (script (c .before .before)))) 2
 unfolding paramRows
@@ -37,7 +40,8 @@ at4 : (c : tie.Else4) → Past (paramRows (rawAt (script (c .before .before .bef
 unfolding paramRows
 at4 c = pass 3 (at3 (c .before .before)) (omega tests)
 
-at5 : (c : tie.Else5) → Past (paramRows (rawAt (script (c .before .before .before .before .before .before .before .before)))) 5
+at5 : (c : tie.Else5) → Past
+    (paramRows (rawAt (script (c .before .before .before .before .before .before .before .before)))) 5
 unfolding paramRows
 at5 c = pass 4 (at4 (c .before .before)) (omega tests)
 
@@ -46,7 +50,9 @@ number-requires c κs = search needs
 
 returns : tie.Need-returns
 unfolding paramRows
-returns c = says (stop 0 (record { rest = refl }) (rw (toZ-ofZ (fits (c .before)), c .before .before .before .number .ensures) at (c .if1 .taken)))
+returns c =
+    says (stop 0 (record { rest = refl })
+    (rw (toZ-ofZ (fits (c .before)), c .before .before .before .number .ensures) at (c .if1 .taken)))
 
 natural-requires : tie.Need-natural-requires
 natural-requires c κs = search needs

@@ -1,4 +1,5 @@
--- `read_blues` meets its contract. The loop's invariant: the pairs are those of the first `i` turns. Assumes nothing.
+-- `read_blues` meets its contract. The loop's invariant: the pairs are those of the first `i`
+-- turns. Assumes nothing.
 use mathlib.Core.Path.{_≡_, refl, sym, ap, _∙_}
 use mathlib.Core.List.{List, [], _∷_, _++_, append-assoc}
 use Prim.Native.Nat.{ℕ, zero, suc, _+_, _-_, _*_, _≤_, _<_}
@@ -27,14 +28,17 @@ pairs-more w at zero =
     ap (λ (k : ℕ). pairAt w k ∷ []) e
 pairs-more w at (suc n) =
     let e : at + 2 + 2 * n ≡ at + 2 * suc n = omega arith in
-    ap (λ (l : List Blue). pairAt w at ∷ l) (pairs-more w (at + 2) n ∙ ap (λ (k : ℕ). pairsFrom w (at + 2) n ++ pairAt w k ∷ []) e)
+    ap (λ (l : List Blue). pairAt w at ∷ l)
+    (pairs-more w (at + 2) n ∙ ap (λ (k : ℕ). pairsFrom w (at + 2) n ++ pairAt w k ∷ []) e)
 
 blues-more : (w : ℕ → ℕ) (at n : ℕ) → n < 7 → pushedPair (bluesAt w at n) (pairAt w (at + 2 * n)) ≡ bluesAt w at (n + 1)
 unfolding bluesAt
 blues-more w at n h =
     let left : 7 - n ≡ suc (7 - (n + 1)) = omega arith in
-    let stored : set (pairsFrom w at n ++ replicate (7 - n) noBlue) n (pairAt w (at + 2 * n)) ≡ pairsFrom w at (n + 1) ++ replicate (7 - (n + 1)) noBlue =
-    rw left (set-at (pairsFrom w at n) noBlue _ (pairAt w (at + 2 * n)) n (pairs-length w at n) ∙ sym (rw (add-one n, pairs-more w at n, append-assoc))) in
+    let stored : set (pairsFrom w at n ++ replicate (7 - n) noBlue) n (pairAt w (at + 2 * n)) ≡
+    pairsFrom w at (n + 1) ++ replicate (7 - (n + 1)) noBlue =
+    rw left (set-at (pairsFrom w at n) noBlue _ (pairAt w (at + 2 * n)) n (pairs-length w at n) ∙
+    sym (rw (add-one n, pairs-more w at n, append-assoc))) in
     ap (λ (l : List Blue). record { pairs = l; count = n + 1 }) stored
 
 abbrev Inv-loop : tie.InvT-loop
@@ -67,7 +71,11 @@ loop-less : tie.Need-loop-less Inv-loop μ-loop
 loop-less c = search needs
 
 loop-again : tie.Need-loop-again Inv-loop μ-loop
-loop-again c = (rw (c .with-pair .ensures, c .before .pair .ensures, c .before .before .before .loop .inv .0) (blues-more _ _ _ (search needs)), search needs)
+loop-again c = (
+  rw (c .with-pair .ensures, c .before .pair .ensures, c .before .before .before .loop .inv .0)
+      (blues-more _ _ _ (search needs)),
+  search needs,
+)
 
 returns : tie.Need-returns Inv-loop μ-loop
 returns c =

@@ -11,7 +11,11 @@ use Rattle.header.proofs.params.read_params.Statement.{statement}
 use Rattle.header.proofs.params.read_params.Tie as tie
 
 -- the last list is in the script
-last : (c : tie.After-natural4) → let b = c .before .before in let s = b .before .before .before in (c .natural4 .result ≤ 7) × (4 * (16 + 2 * b .before .natural .result + 2 * b .natural2 .result + 2 * c .before .natural3 .result + 2 * c .natural4 .result) ≤ length (s .args .script .now))
+last : (c : tie.After-natural4) →
+    let b = c .before .before in let s = b .before .before .before in
+    (c .natural4 .result ≤ 7) ×
+    (4 * (16 + 2 * b .before .natural .result + 2 * b .natural2 .result + 2 * c .before .natural3 .result + 2 *
+    c .natural4 .result) ≤ length (s .args .script .now))
 last c = search needs
 
 -- the language group is a number of 32 bits

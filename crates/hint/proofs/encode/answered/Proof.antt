@@ -1,4 +1,5 @@
--- `answered` lays number and place and, behind them, the result of an answer that is OK. Assumes nothing.
+-- `answered` lays number and place and, behind them, the result of an answer that is OK. Assumes
+-- nothing.
 use mathlib.Core.Path.{_≡_, sym, ap, _∙_}
 use mathlib.Core.List.{List, [], _∷_, map}
 use Prim.Native.Nat.{ℕ, _%_, _≤_}
@@ -10,7 +11,8 @@ use Rattle.fixed.specs.Integers.{bitsOf}
 use Rattle.words.specs.declared.answer.Answer.{Answer}
 use Rattle.words.specs.Answers.{numberOf, placeOf}
 use Rattle.hint.specs.Encode.{laid, resultIn}
-use Rattle.hint.proofs.Laid.{laid-length, laid-behind, low-laid, refused-words, ok-words, result-taken, result-short}
+use Rattle.hint.proofs.Laid.{laid-length, laid-behind, low-laid, refused-words, ok-words, result-taken}
+use Rattle.hint.proofs.Laid.{result-short}
 use Rattle.hint.proofs.encode.answered.Statement.{statement}
 use Rattle.hint.proofs.encode.answered.Tie as tie
 
@@ -38,12 +40,16 @@ module _ (c : tie.After-store2) where
   room = omega (arith, begin .pre)
 
   one : placed .before .before .before .before .store .last .0 ≡ laid bytes 0 (numberOf said ∷ [])
-  one = placed .before .before .before .before .store .ensures ∙ ap (λ (n : ℕ). laid bytes 0 (n ∷ [])) (coded .code .ensures)
+  one =
+      placed .before .before .before .before .store .ensures ∙
+      ap (λ (n : ℕ). laid bytes 0 (n ∷ [])) (coded .code .ensures)
 
   both : c .store2 .last .0 ≡ laid bytes 0 two
   both =
-      c .store2 .ensures ∙ ap (λ (n : ℕ). laid (placed .before .before .before .before .store .last .0) 1 (n % 4294967296 ∷ [])) (placed .place .ensures) ∙
-      low-laid (placed .before .before .before .before .store .last .0) 1 (placeOf said) ∙ ap (λ (b : List ℕ). laid b 1 (placeOf said ∷ [])) one ∙
+      c .store2 .ensures ∙ ap (λ (n : ℕ). laid (placed .before .before .before .before .store .last .0) 1
+      (n % 4294967296 ∷ [])) (placed .place .ensures) ∙
+      low-laid (placed .before .before .before .before .store .last .0) 1 (placeOf said) ∙
+      ap (λ (b : List ℕ). laid b 1 (placeOf said ∷ [])) one ∙
       laid-behind bytes 0 (numberOf said ∷ []) (omega (arith, room)) (placeOf said ∷ []) 1 (omega arith)
 
   both-length : length (c .store2 .last .0) ≡ length bytes
@@ -87,7 +93,8 @@ same-length c = search needs
 returns : tie.Need-returns
 returns c =
     let s = c .before .before .before .before in
-    let w = refused-words (said s) (resultIn (begin s .args .out .now)) (omega (arith, c .before .code2 .ensures, c .if1 .taken)) in
+    let w = refused-words (said s) (resultIn (begin s .args .out .now))
+    (omega (arith, c .before .code2 .ensures, c .if1 .taken)) in
     record { number = omega (arith, ap length w); memory = both s ∙ ap (laid (bytes s) 0) (sym w) }
 
 result-words-requires : tie.Need-result-words-requires
@@ -118,11 +125,16 @@ returns-2 c =
     let s = stored r in
     let o = lent r in
     let w = ok-words (said s) (resultIn o) (omega (arith, r .before .before .code2 .ensures, r .before .if1 .left)) in
-    let t : map bitsOf (take (r .result-words .result) o) ≡ map bitsOf (resultIn o) = ap (map bitsOf) (ap (λ (k : ℕ). take k o) (many r) ∙ result-taken o) in
-    let e = n .encode .ensures ∙ ap (λ (b : List ℕ). laid b 2 (map bitsOf (take (r .result-words .result) o))) (both s) ∙ ap (laid (laid (bytes s) 0 (two s)) 2) t in
+    let t : map bitsOf (take (r .result-words .result) o) ≡
+    map bitsOf (resultIn o) = ap (map bitsOf) (ap (λ (k : ℕ). take k o) (many r) ∙ result-taken o) in
+    let e = n .encode .ensures ∙
+    ap (λ (b : List ℕ). laid b 2 (map bitsOf (take (r .result-words .result) o))) (both s) ∙
+    ap (laid (laid (bytes s) 0 (two s)) 2) t in
     record {
       number = omega (arith, ap length w, length-map (resultIn o) bitsOf, many r);
-      memory = e ∙ laid-behind (bytes s) 0 (two s) (omega (arith, room s)) (map bitsOf (resultIn o)) 2 (omega arith) ∙ ap (laid (bytes s) 0) (sym w);
+      memory =
+          e ∙ laid-behind (bytes s) 0 (two s) (omega (arith, room s)) (map bitsOf (resultIn o)) 2 (omega arith) ∙
+          ap (laid (bytes s) 0) (sym w);
     }
 
 pub answered-spec : {M : Type 1} → statement M

@@ -1,4 +1,5 @@
--- `encode` lays the first words of an output from word 2 on: after i turns the first i. Assumes nothing.
+-- `encode` lays the first words of an output from word 2 on: after i turns the first i. Assumes
+-- nothing.
 use mathlib.Core.Path.{_≡_, sym, ap, _∙_}
 use mathlib.Core.List.{List, [], _∷_, _++_, map}
 use Prim.Native.Nat.{ℕ, _+_, _*_, _-_, _≤_}
@@ -71,9 +72,12 @@ loop-again c =
     let o = begin l .args .out .now in
     let f : SFits w32 (getD o (l .loop .i) (pos 0)) = search needs in
     let w : b .bits-of .result ≡ bitsOf (getD o (l .loop .i) (pos 0)) = b .bits-of .ensures ∙ ap bitsOf (toZ-ofZ f) in (
-      c .before .before .store .ensures ∙ ap (λ (x : List ℕ). laid x (l .loop .i + 2) (b .bits-of .result ∷ [])) (l .loop .inv .0) ∙
-          laid-behind (begin l .args .bytes .now) 2 (done l) (room l) (b .bits-of .result ∷ []) (l .loop .i + 2) (omega (arith, many l)) ∙
-          ap (laid (begin l .args .bytes .now) 2) (ap (λ (n : ℕ). done l ++ (n ∷ [])) w ∙ sym (one-more o (l .loop .i) (omega arith))),
+      c .before .before .store .ensures ∙
+          ap (λ (x : List ℕ). laid x (l .loop .i + 2) (b .bits-of .result ∷ [])) (l .loop .inv .0) ∙
+          laid-behind (begin l .args .bytes .now) 2 (done l) (room l) (b .bits-of .result ∷ []) (l .loop .i + 2)
+          (omega (arith, many l)) ∙
+          ap (laid (begin l .args .bytes .now) 2)
+          (ap (λ (n : ℕ). done l ++ (n ∷ [])) w ∙ sym (one-more o (l .loop .i) (omega arith))),
       omega arith,
     )
 
@@ -84,7 +88,8 @@ returns : tie.Need-returns Inv-loop μ-loop
 returns c =
     let l = c .before in
     let n : l .loop .i ≡ begin l .args .words = omega arith in
-    l .loop .inv .0 ∙ ap (λ (k : ℕ). laid (begin l .args .bytes .now) 2 (map bitsOf (take k (begin l .args .out .now)))) n
+    l .loop .inv .0 ∙ ap (λ (k : ℕ). laid (begin l .args .bytes .now) 2 (map bitsOf (take k (begin l .args .out .now))))
+    n
 
 pub encode-spec : {M : Type 1} → statement M
 encode-spec =

@@ -1,4 +1,5 @@
--- `result_words` counts the header and the record words that it names, no more than there are. Assumes nothing.
+-- `result_words` counts the header and the record words that it names, no more than there are.
+-- Assumes nothing.
 use mathlib.Core.Path.{sym, ap, _∙_}
 use Prim.Native.Nat.{ℕ, min, _+_}
 use native.Mathlib.Omega.{arith}
@@ -40,7 +41,8 @@ returns-2 c =
     let b = c .before in
     let o = b .before .before .before .args .out .now in
     let f : SFits w32 (getD o 3 (pos 0)) = search needs in
-    c .least .ensures ∙ ap (λ (n : ℕ). min (4 + n) (length o)) (b .bits-of .ensures ∙ ap bitsOf (toZ-ofZ f)) ∙ sym (length-take (4 + bitsOf (getD o 3 (pos 0))) o)
+    c .least .ensures ∙ ap (λ (n : ℕ). min (4 + n) (length o)) (b .bits-of .ensures ∙ ap bitsOf (toZ-ofZ f)) ∙
+    sym (length-take (4 + bitsOf (getD o 3 (pos 0))) o)
 
 pub result-words-spec : {M : Type 1} → statement M
 result-words-spec =

@@ -51,7 +51,13 @@ returns-2 c = rw (c .before .before .before .path2 .given .1, c .line-to .ensure
 returns-3 : tie.Need-returns-3
 returns-3 c =
     let p = c .before .before .before in
-    rw (p .before .before .path3 .given .1, c .curve-to .ensures, c .before .place5 .ensures, c .before .before .place4 .ensures, p .place3 .ensures)
+    rw (
+      p .before .before .path3 .given .1,
+      c .curve-to .ensures,
+      c .before .place5 .ensures,
+      c .before .before .place4 .ensures,
+      p .place3 .ensures,
+    )
 
 returns-4 : tie.Need-returns-4
 returns-4 c = rw (c .before .enum-told .given .1, c .finish .ensures)

@@ -1,4 +1,5 @@
--- `put` meets its contract. The loop's invariant: the first `i` words are written over what was lent, and the rest stands. Assumes nothing.
+-- `put` meets its contract. The loop's invariant: the first `i` words are written over what was
+-- lent, and the rest stands. Assumes nothing.
 use mathlib.Core.Path.{_≡_, refl, sym, ap, _∙_}
 use mathlib.Core.List.{List, _++_}
 use Prim.Native.Nat.{ℕ, _-_, _≤_}
@@ -20,7 +21,8 @@ use Rattle.pen.proofs.records.put.Statement.{statement}
 use Rattle.pen.proofs.records.put.Tie as tie
 
 abbrev Inv-loop : tie.InvT-loop
-Inv-loop out₀ records n i₀ out i = (out ≡ take i (records .words) ++ drop i out₀) × ((i ≤ n) × ((n ≤ length out₀) × (n ≤ 10)))
+Inv-loop out₀ records n i₀ out i =
+    (out ≡ take i (records .words) ++ drop i out₀) × ((i ≤ n) × ((n ≤ length out₀) × (n ≤ 10)))
 
 abbrev μ-loop : tie.MeasureT-loop
 μ-loop out₀ records n i₀ out i = n - i
@@ -37,13 +39,17 @@ module _ (c : tie.After-least Inv-loop μ-loop) where
   all = ap (λ (n : ℕ). take n (given .words)) (c .least .ensures) ∙ take-least (given .count) 10 (given .words) ten
 
   counted : length (wordsOf given) ≡ c .least .result
-  counted = ap length (sym all) ∙ length-take-le (c .least .result) (given .words) (omega (arith, ten, c .least .ensures))
+  counted =
+      ap length (sym all) ∙ length-take-le (c .least .result) (given .words) (omega (arith, ten, c .least .ensures))
 
   -- so many stores write them
-  stored : (out : List ℤ) (i : ℕ) → i ≡ c .least .result → take i (given .words) ++ drop i out ≡ written (wordsOf given) out
+  stored : (out : List ℤ) (i : ℕ) → i ≡ c .least .result →
+      take i (given .words) ++ drop i out ≡ written (wordsOf given) out
   unfolding written
   stored out i e =
-      ap (λ (k : ℕ). take k (given .words) ++ drop k out) e ∙ ap (λ (l : List ℤ). l ++ drop (c .least .result) out) all ∙ ap (λ (k : ℕ). wordsOf given ++ drop k out) (sym counted)
+      ap (λ (k : ℕ). take k (given .words) ++ drop k out) e ∙
+      ap (λ (l : List ℤ). l ++ drop (c .least .result) out) all ∙
+      ap (λ (k : ℕ). wordsOf given ++ drop k out) (sym counted)
 
 -- as many words are there as were lent
 lent : (c : tie.At-loop Inv-loop μ-loop) → length (c .loop .out) ≡ length (c .before .before .before .args .out .now)
@@ -84,8 +90,10 @@ loop-again c =
     let at = c .before .before .loop in
     let l = c .before .before .before .before in
     let a = l .before .args in
-    let f : SFits w32 (getD (a .t2 .words) (at .i) (pos 0)) = search needs in
-    (rw (at .inv .0, toZ-ofZ f) (one-more (a .t2 .words) (a .out .now) (at .i) (omega (arith, ten l)) (omega arith)), search needs)
+    let f : SFits w32 (getD (a .t2 .words) (at .i) (pos 0)) = search needs in (
+      rw (at .inv .0, toZ-ofZ f) (one-more (a .t2 .words) (a .out .now) (at .i) (omega (arith, ten l)) (omega arith)),
+      search needs,
+    )
 
 same-length : tie.Need-same-length Inv-loop μ-loop
 same-length c = lent (c .before)
@@ -94,8 +102,13 @@ returns-2 : tie.Need-returns-2 Inv-loop μ-loop
 returns-2 c =
     let l = c .before .before .before in
     let a = l .before .args in
-    let y = ap (λ (k : ℕ). leb k (length (a .out .now))) (counted l) ∙ le-leb (l .least .result) (length (a .out .now)) (omega arith) in
-    record { answer = sym y; memory = rw y (c .before .loop .inv .0 ∙ stored l (a .out .now) (c .before .loop .i) (omega arith)) }
+    let y = ap (λ (k : ℕ). leb k (length (a .out .now))) (counted l) ∙
+    le-leb (l .least .result) (length (a .out .now)) (omega arith) in
+    record {
+      answer = sym y;
+      memory = rw y
+          (c .before .loop .inv .0 ∙ stored l (a .out .now) (c .before .loop .i) (omega arith));
+    }
 
 pub put-spec : {M : Type 1} → statement M
 put-spec =

@@ -1,4 +1,5 @@
--- `marked` does what each command asks of the hints, by the contracts of its calls. Assumes nothing.
+-- `marked` does what each command asks of the hints, by the contracts of its calls. Assumes
+-- nothing.
 use mathlib.Core.Path.{sym, ap, _∙_}
 use native.Mathlib.Omega.{arith}
 use borrow.Author.Needs.{needs}
@@ -58,19 +59,23 @@ returns : tie.Need-returns
 returns c = sym (ap (asked (c .before .before .before)) (c .enum-told .given .1))
 
 returns-2 : tie.Need-returns-2
-returns-2 c = c .with-stem .ensures ∙ sym (ap (asked (c .before .before .before .before .before)) (c .before .before .marking .given .1))
+returns-2 c =
+    c .with-stem .ensures ∙ sym (ap (asked (c .before .before .before .before .before))
+    (c .before .before .marking .given .1))
 
 returns-3 : tie.Need-returns-3
 returns-3 c =
     let m = c .before .before .before in
     let s = m .before .before .before in
-    c .with-mask .ensures ∙ ap (λ (x : HintMask). hintsOf (s .args .state) (s .args .hints) (hintMask x)) (c .before .mask-at .ensures) ∙ sym (ap (asked s) (m .marking2 .given .1))
+    c .with-mask .ensures ∙ ap (λ (x : HintMask). hintsOf (s .args .state) (s .args .hints) (hintMask x))
+    (c .before .mask-at .ensures) ∙ sym (ap (asked s) (m .marking2 .given .1))
 
 returns-4 : tie.Need-returns-4
 returns-4 c =
     let m = c .before .before .before in
     let s = m .before .before .before in
-    c .counter .ensures ∙ ap (λ (x : HintMask). hintsOf (s .args .state) (s .args .hints) (counterMask x)) (c .before .mask-at2 .ensures) ∙ sym (ap (asked s) (m .marking3 .given .1))
+    c .counter .ensures ∙ ap (λ (x : HintMask). hintsOf (s .args .state) (s .args .hints) (counterMask x))
+    (c .before .mask-at2 .ensures) ∙ sym (ap (asked s) (m .marking3 .given .1))
 
 returns-5 : tie.Need-returns-5
 returns-5 c = c .new .ensures ∙ sym (ap (asked (c .before .before .before .before)) (c .before .enum-told2 .given .1))

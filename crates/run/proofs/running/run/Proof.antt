@@ -1,5 +1,6 @@
--- `run` does the commands first to last. At each turn the commands from here on, over the hints and the pen, make of the words from the next free one
--- what all commands make of all words; a turn takes a command, or makes the map that one wants. Assumes nothing.
+-- `run` does the commands first to last. At each turn the commands from here on, over the hints and
+-- the pen, make of the words from the next free one what all commands make of all words; a turn
+-- takes a command, or makes the map that one wants. Assumes nothing.
 use mathlib.Core.Path.{_≡_, sym, ap, _∙_}
 use Prim.Native.Nat.{_+_, _-_, _*_, _<_}
 use native.Mathlib.Omega.{arith}
@@ -20,15 +21,18 @@ use Rattle.commands.specs.Commands.{readAt, nextAt}
 use Rattle.commands.proofs.Laws.{next-is, lent}
 use Rattle.run.specs.Run.{wantsMap}
 use Rattle.run.proofs.Filling.{back}
-use Rattle.run.proofs.Turns.{close-idle, Going, going, mask-there, turn-mark, turn-ready, turn-drew, turn-refused, turn-done, ended, unready, unready-one, wanted}
+use Rattle.run.proofs.Turns.{close-idle, Going, going, mask-there, turn-mark, turn-ready, turn-drew}
+use Rattle.run.proofs.Turns.{turn-refused, turn-done, ended, unready, unready-one, wanted}
 use Rattle.run.proofs.running.run.Statement.{statement}
 use Rattle.run.proofs.running.run.Tie as tie
 
 abbrev Inv-loop : tie.InvT-loop
-Inv-loop script part first n from state out₀ hints₀ pen₀ next₀ at₀ out hints pen next at = Going state script part first n from out₀ hints pen next at out
+Inv-loop script part first n from state out₀ hints₀ pen₀ next₀ at₀ out hints pen next at =
+    Going state script part first n from out₀ hints pen next at out
 
 abbrev μ-loop : tie.MeasureT-loop
-μ-loop script part first n from state out₀ hints₀ pen₀ next₀ at₀ out hints pen next at = 2 * (n - at) + unready (hints .map .«is_valid»)
+μ-loop script part first n from state out₀ hints₀ pen₀ next₀ at₀ out hints pen next at =
+    2 * (n - at) + unready (hints .map .«is_valid»)
 
 -- the arguments, from a turn's start
 abbrev begin : tie.At-loop Inv-loop μ-loop → tie.Start Inv-loop μ-loop
@@ -43,7 +47,8 @@ module _ (c : tie.After-read-command Inv-loop μ-loop) where
   abbrev turn : tie.At-loop Inv-loop μ-loop
   turn = c .before .before
 
-  read-is : c .read-command .result .command ≡ readAt (rawAt (begin turn .args .part .now)) (begin turn .args .n) (turn .loop .at) .command
+  read-is : c .read-command .result .command ≡
+      readAt (rawAt (begin turn .args .part .now)) (begin turn .args .n) (turn .loop .at) .command
   read-is = ap (λ (r : Read). r .command) (c .read-command .ensures)
 
   moved : c .read-command .result .next ≡ nextAt (rawAt (begin turn .args .part .now)) (turn .loop .at)
@@ -54,7 +59,8 @@ module _ (c : tie.After-command Inv-loop μ-loop) where
   abbrev mark-turn : tie.At-loop Inv-loop μ-loop
   mark-turn = turn (c .before .before)
 
-  mark-is : readAt (rawAt (begin mark-turn .args .part .now)) (begin mark-turn .args .n) (mark-turn .loop .at) .command ≡ Mark (c .command .given .0 .0)
+  mark-is : readAt (rawAt (begin mark-turn .args .part .now)) (begin mark-turn .args .n) (mark-turn .loop .at) .command
+      ≡ Mark (c .command .given .0 .0)
   mark-is = sym (read-is (c .before .before)) ∙ c .command .given .1
 
 -- a call that draws
@@ -68,7 +74,8 @@ module _ (c : tie.After-wants-map Inv-loop μ-loop) where
   abbrev path : Path
   path = c .before .before .command2 .given .0 .0
 
-  draw-is : readAt (rawAt (begin draw-turn .args .part .now)) (begin draw-turn .args .n) (draw-turn .loop .at) .command ≡ Draw path
+  draw-is : readAt (rawAt (begin draw-turn .args .part .now)) (begin draw-turn .args .n) (draw-turn .loop .at) .command
+      ≡ Draw path
   draw-is = sym (read-is draw-read) ∙ c .before .before .command2 .given .1
 
 -- the call, over the rest of the output
@@ -76,14 +83,20 @@ module _ (c : tie.After-draw Inv-loop μ-loop) where
   abbrev call-turn : tie.At-loop Inv-loop μ-loop
   call-turn = draw-turn (c .before .before .before)
 
-  drew : Drew (strokeBy (call-turn .loop .hints .map) (begin call-turn .args .state .scale) (call-turn .loop .pen) (path (c .before .before .before))) (call-turn .loop .pen) (drop (call-turn .loop .next) (call-turn .loop .out)) (c .draw .result) (c .draw .last .1 .1 .1 .1 .0)
+  drew : Drew (strokeBy (call-turn .loop .hints .map) (begin call-turn .args .state .scale) (call-turn .loop .pen)
+      (path (c .before .before .before))) (call-turn .loop .pen) (drop (call-turn .loop .next) (call-turn .loop .out))
+      (c .draw .result) (c .draw .last .1 .1 .1 .1 .0)
   drew = rw (lent (call-turn .loop .out) (call-turn .loop .next)) at (c .draw .ensures)
 
   no-map : wantsMap (call-turn .loop .hints .map .«is_valid») (path (c .before .before .before)) ≡ false
   no-map = sym (c .before .before .before .wants-map .ensures) ∙ c .before .before .if2 .left
 
-  same-out : length (putMid (call-turn .loop .next) (length (call-turn .loop .out) - call-turn .loop .next) (call-turn .loop .out) (c .draw .last .1 .1 .1 .1 .0)) ≡ length (begin call-turn .args .out .now)
-  same-out = same-len-mid (call-turn .loop .next) (length (call-turn .loop .out) - call-turn .loop .next) (call-turn .loop .out) (c .draw .last .1 .1 .1 .1 .0) (c .draw .kept .1 .1 .1 .1 .0) ∙ call-turn .loop .inv .stands .along .same
+  same-out : length (putMid (call-turn .loop .next) (length (call-turn .loop .out) - call-turn .loop .next)
+      (call-turn .loop .out) (c .draw .last .1 .1 .1 .1 .0)) ≡ length (begin call-turn .args .out .now)
+  same-out =
+      same-len-mid (call-turn .loop .next) (length (call-turn .loop .out) - call-turn .loop .next)
+      (call-turn .loop .out) (c .draw .last .1 .1 .1 .1 .0) (c .draw .kept .1 .1 .1 .1 .0) ∙
+      call-turn .loop .inv .stands .along .same
 
 new-requires : tie.Need-new-requires Inv-loop μ-loop
 new-requires c κs = search needs
@@ -95,7 +108,8 @@ loop-holds : tie.Need-loop-holds Inv-loop μ-loop
 loop-holds c =
     let s = c .before .before .before .before in
     let a = s .args in
-    rw (c .before .new .ensures, c .new2 .ensures) (going (a .state) (a .script .now) (a .part .now) (a .first) (a .n) (a .from) (s .pre) (a .out .now))
+    rw (c .before .new .ensures, c .new2 .ensures)
+    (going (a .state) (a .script .now) (a .part .now) (a .first) (a .n) (a .from) (s .pre) (a .out .now))
 
 read-command-requires : tie.Need-read-command-requires Inv-loop μ-loop
 read-command-requires c κs =
@@ -120,15 +134,18 @@ loop-again c =
     let r = m .before .before in
     let l = mark-turn m in
     let a = begin l .args in
-    let e = close-idle (a .state) (l .loop .hints) (a .script .now) (a .from) (m .command .given .0 .0) (sym (c .before .is-close .ensures) ∙ c .if1 .taken) in
-    rw (moved r) (rw e at (turn-mark (a .state) (a .script .now) (a .part .now) (a .first) (a .n) (a .from) (l .loop .inv) (r .before .loop-test .taken) (mark-is m)))
+    let e = close-idle (a .state) (l .loop .hints) (a .script .now) (a .from) (m .command .given .0 .0)
+    (sym (c .before .is-close .ensures) ∙ c .if1 .taken) in
+    rw (moved r) (rw e at (turn-mark (a .state) (a .script .now) (a .part .now) (a .first) (a .n) (a .from)
+    (l .loop .inv) (r .before .loop-test .taken) (mark-is m)))
 
 marked-requires : tie.Need-marked-requires Inv-loop μ-loop
 marked-requires c κs =
     let m = c .before .before .before in
     let l = mark-turn m in
     let a = begin l .args in
-    mask-there (a .state) (a .script .now) (a .part .now) (a .first) (a .n) (a .from) (l .loop .inv) (m .before .before .before .loop-test .taken) (mark-is m)
+    mask-there (a .state) (a .script .now) (a .part .now) (a .first) (a .n) (a .from) (l .loop .inv)
+    (m .before .before .before .loop-test .taken) (mark-is m)
 
 loop-less-2 : tie.Need-loop-less-2 Inv-loop μ-loop
 loop-less-2 c =
@@ -142,7 +159,9 @@ loop-again-2 c =
     let r = m .before .before in
     let l = mark-turn m in
     let a = begin l .args in
-    rw (c .marked .ensures, moved r) (turn-mark (a .state) (a .script .now) (a .part .now) (a .first) (a .n) (a .from) (l .loop .inv) (r .before .loop-test .taken) (mark-is m))
+    rw (c .marked .ensures, moved r)
+    (turn-mark (a .state) (a .script .now) (a .part .now) (a .first) (a .n) (a .from) (l .loop .inv)
+    (r .before .loop-test .taken) (mark-is m))
 
 enum-known-command-2 : tie.Need-enum-known-command-2 Inv-loop μ-loop
 enum-known-command-2 c = search needs
@@ -158,7 +177,8 @@ loop-less-3 c =
     let w = c .before .before in
     let l = draw-turn w in
     let e = wanted (l .loop .hints .map .«is_valid») (path w) (sym (w .wants-map .ensures) ∙ c .before .if2 .taken) in
-    let v = ap (λ (h : Hints). unready (h .map .«is_valid»)) (c .ready .ensures) ∙ ap unready (ready-valid (begin l .args .state) (l .loop .hints)) in
+    let v = ap (λ (h : Hints). unready (h .map .«is_valid»)) (c .ready .ensures) ∙
+    ap unready (ready-valid (begin l .args .state) (l .loop .hints)) in
     omega (arith, v, ap unready (e .0))
 
 loop-again-3 : tie.Need-loop-again-3 Inv-loop μ-loop
@@ -167,7 +187,8 @@ loop-again-3 c =
     let l = draw-turn w in
     let a = begin l .args in
     let e = wanted (l .loop .hints .map .«is_valid») (path w) (sym (w .wants-map .ensures) ∙ c .before .if2 .taken) in
-    rw (c .ready .ensures) (turn-ready (a .state) (a .script .now) (a .part .now) (a .first) (a .n) (a .from) (l .loop .inv) (draw-read w .before .loop-test .taken) (draw-is w) (e .1))
+    rw (c .ready .ensures) (turn-ready (a .state) (a .script .now) (a .part .now) (a .first) (a .n) (a .from)
+    (l .loop .inv) (draw-read w .before .loop-test .taken) (draw-is w) (e .1))
 
 mul-draw : tie.Need-mul-draw Inv-loop μ-loop
 mul-draw c =
@@ -195,7 +216,12 @@ enum-told c = search needs
 add-t27 : tie.Need-add-t27 Inv-loop μ-loop
 add-t27 c =
     let l = call-turn (c .before .before .before) in
-    omega (arith, begin l .pre .start, begin l .pre .short, draw-read (c .before .before .before .before .before .before) .before .loop-test .taken)
+    omega (
+      arith,
+      begin l .pre .start,
+      begin l .pre .short,
+      draw-read (c .before .before .before .before .before .before) .before .loop-test .taken,
+    )
 
 same-length : tie.Need-same-length Inv-loop μ-loop
 same-length c = same-out (c .before .before .before)
@@ -207,15 +233,29 @@ returns c =
     let l = call-turn d in
     let a = begin l .args in
     let n = drew-refused (drew d) (c .enum-told .given .1) in
-    let s = turn-refused (a .state) (a .script .now) (a .part .now) (a .first) (a .n) (a .from) (l .loop .inv) (draw-read w .before .loop-test .taken) (draw-is w) (no-map d) n in
-    ended (a .state) (a .script .now) (a .part .now) (a .first) (a .n) (a .from) (rw (back (l .loop .next) (l .loop .out), n .left, take-append-drop (l .loop .next) (l .loop .out)) s)
+    let s = turn-refused (a .state) (a .script .now) (a .part .now) (a .first) (a .n) (a .from) (l .loop .inv)
+    (draw-read w .before .loop-test .taken) (draw-is w) (no-map d) n in
+    ended (a .state) (a .script .now) (a .part .now) (a .first) (a .n) (a .from)
+    (rw (back (l .loop .next) (l .loop .out), n .left, take-append-drop (l .loop .next) (l .loop .out)) s)
 
 add-next : tie.Need-add-next Inv-loop μ-loop
 add-next c =
     let d = c .before .before .before .before .before in
     let l = call-turn d in
     let q = drew-wrote (drew d) (c .before .before .answer .given .0 .0) (c .before .before .answer .given .1) in
-    record { fits = omega (arith, q .count, leb-true (length (wordsOf (strokeBy (l .loop .hints .map) (begin l .args .state .scale) (l .loop .pen) (path (d .before .before .before)) .records))) (length (drop (l .loop .next) (l .loop .out))) (q .fit), length-drop (l .loop .next) (l .loop .out), l .loop .inv .stands .along .within, room l, l .loop .inv .stands .along .same) }
+    record {
+      fits = omega (
+        arith,
+        q .count,
+        leb-true (length (wordsOf
+            (strokeBy (l .loop .hints .map) (begin l .args .state .scale) (l .loop .pen)
+            (path (d .before .before .before)) .records))) (length (drop (l .loop .next) (l .loop .out))) (q .fit),
+        length-drop (l .loop .next) (l .loop .out),
+        l .loop .inv .stands .along .within,
+        room l,
+        l .loop .inv .stands .along .same,
+      );
+    }
 
 loop-less-4 : tie.Need-loop-less-4 Inv-loop μ-loop
 loop-less-4 c =
@@ -230,7 +270,9 @@ loop-again-4 c =
     let l = call-turn d in
     let a = begin l .args in
     let q = drew-wrote (drew d) (c .before .before .answer .given .0 .0) (c .before .before .answer .given .1) in
-    rw (moved (draw-read w), back (l .loop .next) (l .loop .out)) (turn-drew (a .state) (a .script .now) (a .part .now) (a .first) (a .n) (a .from) (l .loop .inv) (draw-read w .before .loop-test .taken) (draw-is w) (no-map d) q)
+    rw (moved (draw-read w), back (l .loop .next) (l .loop .out))
+    (turn-drew (a .state) (a .script .now) (a .part .now) (a .first) (a .n) (a .from) (l .loop .inv)
+    (draw-read w .before .loop-test .taken) (draw-is w) (no-map d) q)
 
 same-length-2 : tie.Need-same-length-2 Inv-loop μ-loop
 same-length-2 c = c .before .loop .inv .stands .along .same
@@ -239,7 +281,8 @@ returns-2 : tie.Need-returns-2 Inv-loop μ-loop
 returns-2 c =
     let l = c .before in
     let a = begin l .args in
-    let s = turn-done (a .state) (a .script .now) (a .part .now) (a .first) (a .n) (a .from) (l .loop .inv) (omega arith) in
+    let s = turn-done (a .state) (a .script .now) (a .part .now) (a .first) (a .n) (a .from) (l .loop .inv)
+    (omega arith) in
     ended (a .state) (a .script .now) (a .part .now) (a .first) (a .n) (a .from) s
 
 pub run-spec : {M : Type 1} → statement M

@@ -1,4 +1,5 @@
--- `count_records` counts the records in the first words of an output: those counted, and those in the words from here on, are all of them. Assumes nothing.
+-- `count_records` counts the records in the first words of an output: those counted, and those in
+-- the words from here on, are all of them. Assumes nothing.
 use mathlib.Core.Path.{_≡_, refl, sym, ap, _∙_}
 use mathlib.Core.List.{List}
 use Prim.Native.Nat.{ℕ, suc, _+_, _-_, _≤_}
@@ -17,7 +18,8 @@ use Rattle.script.proofs.count.count_records.Statement.{statement}
 use Rattle.script.proofs.count.count_records.Tie as tie
 
 abbrev Inv-loop : tie.InvT-loop
-Inv-loop out words end count₀ at₀ count at = (count + recordsIn (drop at (take end out)) ≡ recordsIn (take words out)) × ((count ≤ at) × (at ≤ end + 6))
+Inv-loop out words end count₀ at₀ count at =
+    (count + recordsIn (drop at (take end out)) ≡ recordsIn (take words out)) × ((count ≤ at) × (at ≤ end + 6))
 
 abbrev μ-loop : tie.MeasureT-loop
 μ-loop out words end count₀ at₀ count at = end - at
@@ -34,9 +36,12 @@ module _ (c : tie.After-least Inv-loop μ-loop) where
   all = ap (λ (n : ℕ). take n lent) (c .least .ensures) ∙ take-least (c .before .args .words) (length lent) lent refl
 
 -- the size of the record at this word
-sized : (c : tie.After-size Inv-loop μ-loop) → c .size .result ≡ sizeOf (getD (lent (c .before .before .before .before)) (c .before .before .before .loop .at) (pos 0))
+sized : (c : tie.After-size Inv-loop μ-loop) →
+    c .size .result ≡ sizeOf
+    (getD (lent (c .before .before .before .before)) (c .before .before .before .loop .at) (pos 0))
 sized c =
-    let f : SFits w32 (getD (lent (c .before .before .before .before)) (c .before .before .before .loop .at) (pos 0)) = search needs in
+    let f : SFits w32 (getD (lent (c .before .before .before .before)) (c .before .before .before .loop .at) (pos 0)) =
+    search needs in
     c .size .ensures .0 ∙ ap sizeOf (toZ-ofZ f)
 
 least-requires : tie.Need-least-requires Inv-loop μ-loop
@@ -61,7 +66,13 @@ add-count : tie.Need-add-count Inv-loop μ-loop
 add-count c = omega (arith, there (c .before .before .before .before))
 
 loop-less : tie.Need-loop-less Inv-loop μ-loop
-loop-less c = omega (arith, sized c, sizes (getD (lent (c .before .before .before .before)) (c .before .before .before .loop .at) (pos 0)))
+loop-less c =
+    omega (
+      arith,
+      sized c,
+      sizes
+          (getD (lent (c .before .before .before .before)) (c .before .before .before .loop .at) (pos 0)),
+    )
 
 loop-again : tie.Need-loop-again Inv-loop μ-loop
 loop-again c =
@@ -71,7 +82,8 @@ loop-again c =
     let ws = take end o in
     let n : length ws ≡ end = length-take-le end o (there (l .before)) in
     let k = sized c ∙ sym (ap sizeOf (getD-take end o (l .loop .at) (pos 0) (c .before .before .loop-test .taken))) in
-    let s = count-step ws (l .loop .at) (omega (arith, n)) ∙ ap (λ (r : ℕ). suc (recordsIn (drop (l .loop .at + r) ws))) (sym k) in
+    let s = count-step ws (l .loop .at) (omega (arith, n)) ∙
+    ap (λ (r : ℕ). suc (recordsIn (drop (l .loop .at + r) ws))) (sym k) in
     let z = sizes (getD o (l .loop .at) (pos 0)) in
     (omega (arith, l .loop .inv .0, s), (omega (arith, l .loop .inv .1 .0, sized c, z), omega (arith, sized c, z)))
 

@@ -29,8 +29,12 @@ returns-3 c = (sym (ap sizeOf (kind-is 3 (c .before .before .before .fits .kind)
 
 returns-4 : tie.Need-returns-4
 returns-4 c =
-    let k = c .before .before .before .args .kind in
-    (sym (other-size k (λ e. c .before .before .if1 .left (ap (ofZ w32) e)) (λ e. c .before .if2 .left (ap (ofZ w32) e)) (λ e. c .if3 .left (ap (ofZ w32) e))), omega arith)
+    let k = c .before .before .before .args .kind in (
+      sym (other-size k (λ e. c .before .before .if1 .left (ap (ofZ w32) e))
+          (λ e. c .before .if2 .left (ap (ofZ w32) e))
+          (λ e. c .if3 .left (ap (ofZ w32) e))),
+      omega arith,
+    )
 
 pub size-spec : {M : Type 1} → statement M
 size-spec = tie.close (tie.spec returns returns-2 returns-3 returns-4)

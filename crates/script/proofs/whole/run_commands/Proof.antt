@@ -11,8 +11,10 @@ use Rattle.script.proofs.whole.run_commands.Statement.{statement}
 use Rattle.script.proofs.whole.run_commands.Tie as tie
 
 -- the commands start in the script
-first-inside : (c : tie.After-natural3) → 4 * c .before .before .natural .result ≤ length (c .before .before .before .before .args .script .now)
-first-inside c = omega (arith, c .before .before .natural .ensures .0, passed _ (c .before .before .before .before .pre) .fine .ends)
+first-inside : (c : tie.After-natural3) →
+    4 * c .before .before .natural .result ≤ length (c .before .before .before .before .args .script .now)
+first-inside c =
+    omega (arith, c .before .before .natural .ensures .0, passed _ (c .before .before .before .before .pre) .fine .ends)
 
 natural-requires : tie.Need-natural-requires
 natural-requires c κs = omega (arith, passed _ (c .before .pre) .fine .enough)
@@ -45,7 +47,12 @@ run-requires : tie.Need-run-requires
 run-requires c κs =
     let n = c .before .before .before in
     let s = n .before .before .before .before in
-    rw (n .before .before .natural .ensures .0, n .before .natural2 .ensures .0, n .natural3 .ensures .0, lent (s .args .script .now) (4 * rawAt (s .args .script .now) 4)) (runnable _ (passed _ (s .pre)))
+    rw (
+      n .before .before .natural .ensures .0,
+      n .before .natural2 .ensures .0,
+      n .natural3 .ensures .0,
+      lent (s .args .script .now) (4 * rawAt (s .args .script .now) 4),
+    ) (runnable _ (passed _ (s .pre)))
 
 same-length : tie.Need-same-length
 same-length c = search needs
@@ -56,7 +63,14 @@ returns c =
     let z = r .before .before in
     let n = z .before .before in
     let s = n .before .before .before .before in
-    rw (sym (ran (s .args .script .now) (s .args .out .now))) (simp (z .zones-of .ensures, n .before .before .natural .ensures .0, n .before .natural2 .ensures .0, n .natural3 .ensures .0, lent (s .args .script .now) (4 * rawAt (s .args .script .now) 4)) at (r .run .ensures))
+    rw (sym (ran (s .args .script .now) (s .args .out .now)))
+    (simp (
+      z .zones-of .ensures,
+      n .before .before .natural .ensures .0,
+      n .before .natural2 .ensures .0,
+      n .natural3 .ensures .0,
+      lent (s .args .script .now) (4 * rawAt (s .args .script .now) 4),
+    ) at (r .run .ensures))
 
 pub run-commands-spec : {M : Type 1} → statement M
 run-commands-spec =

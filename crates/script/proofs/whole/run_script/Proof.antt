@@ -1,4 +1,5 @@
--- `run_script` answers a script and leaves the output as its definition says, whichever way it ends. Assumes nothing.
+-- `run_script` answers a script and leaves the output as its definition says, whichever way it
+-- ends. Assumes nothing.
 use mathlib.Core.Path.{_≡_, sym, ap, subst, _∙_}
 use mathlib.Core.Bool.{false}
 use mathlib.Core.List.{List, [], _∷_, _++_}
@@ -20,14 +21,18 @@ use Rattle.run.proofs.Filling.{back}
 use Rattle.commands.proofs.Laws.{lent}
 use Rattle.script.specs.Script.{checkRows, scriptOf, Scripted}
 use Rattle.script.proofs.Passed.{passed}
-use Rattle.script.proofs.Results.{refused, taken, by-fault, by-size, ran, by-room, by-run, header-before, behind, short}
+use Rattle.script.proofs.Results.{refused, taken, by-fault, by-size, ran, by-room, by-run, header-before, behind}
+use Rattle.script.proofs.Results.{short}
 use borrow.Author.Needs.{needs}
 use Rattle.script.proofs.whole.run_script.Statement.{statement}
 use Rattle.script.proofs.whole.run_script.Tie as tie
 
 -- a script without a fault passes all tests
-no-fault : (c : tie.Else1) → refuses (firstOf (checkRows (c .before .before .before .before .args .script .now))) ≡ false
-no-fault c = taken (firstOf (checkRows (c .before .before .before .before .args .script .now))) (omega (arith, ap numberOf (c .before .before .check .ensures), c .before .code .ensures, c .if1 .left))
+no-fault : (c : tie.Else1) →
+    refuses (firstOf (checkRows (c .before .before .before .before .args .script .now))) ≡ false
+no-fault c =
+    taken (firstOf (checkRows (c .before .before .before .before .args .script .now)))
+    (omega (arith, ap numberOf (c .before .before .check .ensures), c .before .code .ensures, c .if1 .left))
 
 all-ok : (c : tie.Else1) → firstOf (checkRows (c .before .before .before .before .args .script .now)) ≡ Ok
 all-ok c = not-refused (firstOf (checkRows (c .before .before .before .before .args .script .now))) (no-fault c)
@@ -71,11 +76,14 @@ module _ (c : tie.After-run-commands) where
   few = short script (length (drop 4 out)) (passed script (all-ok begun))
 
 -- the records that were counted
-counted : (c : tie.After-count-records) → c .count-records .result ≡ recordsIn (fit (c .before .before .before .before .before .before) .words)
+counted : (c : tie.After-count-records) →
+    c .count-records .result ≡ recordsIn (fit (c .before .before .before .before .before .before) .words)
 counted c =
     let r = c .before .before .before .before .before .before in
     c .count-records .ensures ∙
-    ap recordsIn (ap (take (r .run-commands .result .words)) (lent (mid r) 4 ∙ ap (drop 4) (home r)) ∙ ap (λ (k : ℕ). take k (drop 4 (take 4 (out r) ++ written (fit r .words) (drop 4 (out r))))) (words-are r) ∙ behind (fit r .words) (out r) (enough r))
+    ap recordsIn (ap (take (r .run-commands .result .words)) (lent (mid r) 4 ∙ ap (drop 4) (home r)) ∙
+    ap (λ (k : ℕ). take k (drop 4 (take 4 (out r) ++ written (fit r .words) (drop 4 (out r))))) (words-are r) ∙
+    behind (fit r .words) (out r) (enough r))
 
 check-requires : tie.Need-check-requires
 check-requires c κs = search needs
@@ -89,7 +97,8 @@ returns c =
     let s = k .before .before .args in
     let n = ap numberOf (k .check .ensures) in
     subst (λ (a : Answer). Scripted (scriptOf (s .script .now) (s .out .now)) a (s .out .now)) (sym (k .check .ensures))
-    (by-fault (s .script .now) (s .out .now) (refused (firstOf (checkRows (s .script .now))) (omega (arith, n, c .before .code .ensures, c .if1 .taken))))
+    (by-fault (s .script .now) (s .out .now)
+    (refused (firstOf (checkRows (s .script .now))) (omega (arith, n, c .before .code .ensures, c .if1 .taken))))
 
 natural-requires : tie.Need-natural-requires
 natural-requires c κs = omega (arith, passed _ (all-ok (c .before)) .fine .enough)
@@ -122,7 +131,9 @@ returns-3 : tie.Need-returns-3
 returns-3 c =
     let r = c .before .before .before in
     let n = ap numberOf (answer-is r) in
-    rw (answer-is r, home r) (by-room (script r) (out r) (no-fault (begun r)) (enough r) (refused (fit r .said) (omega (arith, n, c .before .code2 .ensures, c .if3 .taken))))
+    rw (answer-is r, home r)
+    (by-room (script r) (out r) (no-fault (begun r)) (enough r)
+    (refused (fit r .said) (omega (arith, n, c .before .code2 .ensures, c .if3 .taken))))
 
 sub-count-records : tie.Need-sub-count-records
 sub-count-records c = search needs
@@ -137,16 +148,33 @@ count-records-requires : tie.Need-count-records-requires
 count-records-requires c κs = search needs
 
 cast-seal : tie.Need-cast-seal
-cast-seal c = record { fits = omega (arith, counted (c .before), few-records (fit (c .before .before .before .before .before .before .before) .words), few (c .before .before .before .before .before .before .before)) }
+cast-seal c =
+    record {
+      fits = omega (
+        arith,
+        counted (c .before),
+        few-records (fit (c .before .before .before .before .before .before .before) .words),
+        few (c .before .before .before .before .before .before .before),
+      );
+    }
 
 cast-seal-2 : tie.Need-cast-seal-2
-cast-seal-2 c = record { fits = omega (arith, words-are (c .before .before .before .before .before .before .before .before), few (c .before .before .before .before .before .before .before .before)) }
+cast-seal-2 c =
+    record {
+      fits = omega (
+        arith,
+        words-are (c .before .before .before .before .before .before .before .before),
+        few (c .before .before .before .before .before .before .before .before),
+      );
+    }
 
 seal-requires : tie.Need-seal-requires
 seal-requires c κs =
     let k = c .before .before in
-    let r = k .before .before .before .before .before .before in
-    (omega (arith, mid-length r, enough r), (omega (arith, counted k, few-records (fit r .words), few r), omega (arith, words-are r, few r)))
+    let r = k .before .before .before .before .before .before in (
+      omega (arith, mid-length r, enough r),
+      (omega (arith, counted k, few-records (fit r .words), few r), omega (arith, words-are r, few r)),
+    )
 
 same-length-2 : tie.Need-same-length-2
 same-length-2 c = search needs
@@ -162,7 +190,9 @@ returns-4 c =
     record {
       answer = says (sym (not-refused (fit r .said) ok) ∙ says-is (b .answer));
       memory =
-          c .before .seal .ensures ∙ ap (λ (n : ℕ). written (pos 1 ∷ pos n ∷ pos 4 ∷ pos (r .run-commands .result .words) ∷ []) (mid r)) (counted k) ∙
+          c .before .seal .ensures ∙
+          ap (λ (n : ℕ). written (pos 1 ∷ pos n ∷ pos 4 ∷ pos (r .run-commands .result .words) ∷ []) (mid r))
+          (counted k) ∙
           ap (λ (n : ℕ). written (pos 1 ∷ pos (recordsIn ws) ∷ pos 4 ∷ pos n ∷ []) (mid r)) (words-are r) ∙
           ap (written (pos 1 ∷ pos (recordsIn ws) ∷ pos 4 ∷ pos (length ws) ∷ [])) (home r) ∙
           header-before (pos 1) (pos (recordsIn ws)) (pos 4) (pos (length ws)) ws (out r) (enough r) ∙

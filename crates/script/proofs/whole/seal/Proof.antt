@@ -13,7 +13,8 @@ use Rattle.script.proofs.whole.seal.Statement.{statement}
 use Rattle.script.proofs.whole.seal.Tie as tie
 
 -- four stores at the start of a list
-four : (out : List ℤ) (a b c d : ℤ) → 4 ≤ length out → set (set (set (set out 0 a) 1 b) 2 c) 3 d ≡ a ∷ b ∷ c ∷ d ∷ drop 4 out
+four : (out : List ℤ) (a b c d : ℤ) → 4 ≤ length out →
+    set (set (set (set out 0 a) 1 b) 2 c) 3 d ≡ a ∷ b ∷ c ∷ d ∷ drop 4 out
 four [] a b c d h = absurd (omega arith)
 four (w ∷ []) a b c d h = absurd (omega arith)
 four (w ∷ x ∷ []) a b c d h = absurd (omega arith)

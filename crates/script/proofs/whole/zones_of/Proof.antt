@@ -26,7 +26,8 @@ returns : tie.Need-returns
 unfolding zonesOf
 returns c =
     let n = c .before in
-    c .new .ensures ∙ ap (λ (x : HintParams). stateOf x (n .number .result)) (n .before .read-params .ensures) ∙ ap (stateOf (paramsOf (rawAt (n .before .before .before .args .script .now)))) (n .number .ensures)
+    c .new .ensures ∙ ap (λ (x : HintParams). stateOf x (n .number .result)) (n .before .read-params .ensures) ∙
+    ap (stateOf (paramsOf (rawAt (n .before .before .before .args .script .now)))) (n .number .ensures)
 
 pub zones-of-spec : {M : Type 1} → statement M
 zones-of-spec = tie.close (tie.spec read-params-requires number-requires new-requires returns)

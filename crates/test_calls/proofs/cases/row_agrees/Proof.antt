@@ -1,4 +1,5 @@
--- `cases::row_agrees` is safe and ends. Its loop has nothing to keep; the measure is what is left of the row. Assumes nothing.
+-- `cases::row_agrees` is safe and ends. Its loop has nothing to keep; the measure is what is left
+-- of the row. Assumes nothing.
 use Prim.Native.Nat.{_-_}
 use lib.ListN.{length}
 use borrow.Author.Needs.{needs}

@@ -1,4 +1,5 @@
--- `lent::words_agree` is safe and ends. The loop's invariant: `i` is at most 20. The measure is what is left of 20. Assumes nothing.
+-- `lent::words_agree` is safe and ends. The loop's invariant: `i` is at most 20. The measure is
+-- what is left of 20. Assumes nothing.
 use Prim.Native.Nat.{_≤_, _-_}
 use borrow.Author.Needs.{needs}
 use Rattle.test_calls.proofs.lent.words_agree.Statement.{statement}

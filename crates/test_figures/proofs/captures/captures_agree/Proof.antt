@@ -1,4 +1,5 @@
--- `captures::captures_agree` is safe and ends. The loop's invariant: `i` is at most the count of stems. The measure is what is left of the count. Assumes nothing.
+-- `captures::captures_agree` is safe and ends. The loop's invariant: `i` is at most the count of
+-- stems. The measure is what is left of the count. Assumes nothing.
 use Prim.Native.Nat.{_≤_, _-_}
 use borrow.Author.Count.{falls}
 use borrow.Author.Needs.{needs}

@@ -1,4 +1,5 @@
--- `masks::same_bytes` is safe and ends. The loop's invariant: `i` is at most 12. The measure is what is left of 12. Assumes nothing.
+-- `masks::same_bytes` is safe and ends. The loop's invariant: `i` is at most 12. The measure is
+-- what is left of 12. Assumes nothing.
 use Prim.Native.Nat.{_≤_, _-_}
 use borrow.Author.Needs.{needs}
 use Rattle.test_figures.proofs.masks.same_bytes.Statement.{statement}

@@ -1,4 +1,5 @@
--- `states::zones_agree` is safe and ends. The loop's invariant: `i` is at most the count of zones. The measure is what is left of the count. Assumes nothing.
+-- `states::zones_agree` is safe and ends. The loop's invariant: `i` is at most the count of zones.
+-- The measure is what is left of the count. Assumes nothing.
 use Prim.Native.Nat.{_≤_, _-_}
 use borrow.Author.Needs.{needs}
 use Rattle.test_figures.proofs.states.zones_agree.Statement.{statement}

@@ -1,4 +1,5 @@
--- `edges::edges_agree` is safe and ends. The loop's invariant: `i` is at most the count of edges. The measure is what is left of the count. Assumes nothing.
+-- `edges::edges_agree` is safe and ends. The loop's invariant: `i` is at most the count of edges.
+-- The measure is what is left of the count. Assumes nothing.
 use Prim.Native.Nat.{_≤_, _-_}
 use borrow.Author.Needs.{needs}
 use Rattle.test_maps.proofs.edges.edges_agree.Statement.{statement}

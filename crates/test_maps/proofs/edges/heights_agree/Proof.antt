@@ -1,4 +1,5 @@
--- `edges::heights_agree` is safe and ends. The loop's invariant: `i` is at most the count of heights. The measure is what is left of the count. Assumes nothing.
+-- `edges::heights_agree` is safe and ends. The loop's invariant: `i` is at most the count of
+-- heights. The measure is what is left of the count. Assumes nothing.
 use Prim.Native.Nat.{_≤_, _-_}
 use borrow.Author.Needs.{needs}
 use Rattle.test_maps.proofs.edges.heights_agree.Statement.{statement}

@@ -1,4 +1,5 @@
--- `maps::with_stems` is safe and ends. The loop's invariant: `i` is at most the count of stems. The measure is what is left of the count. Assumes nothing.
+-- `maps::with_stems` is safe and ends. The loop's invariant: `i` is at most the count of stems. The
+-- measure is what is left of the count. Assumes nothing.
 use Prim.Native.Nat.{_≤_, _-_}
 use borrow.Author.Needs.{needs}
 use Rattle.test_maps.proofs.maps.with_stems.Statement.{statement}

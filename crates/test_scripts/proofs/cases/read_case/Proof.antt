@@ -1,4 +1,5 @@
--- `cases::read_case` is safe: each part that is lent has the length that was tested. Assumes nothing.
+-- `cases::read_case` is safe: each part that is lent has the length that was tested. Assumes
+-- nothing.
 use mathlib.Core.Path.{sym}
 use native.Mathlib.Omega.{arith}
 use lib.Seq.{length-take-le}
@@ -61,7 +62,13 @@ slice-aggregate-read-rest-4 : tie.Need-slice-aggregate-read-rest-4
 slice-aggregate-read-rest-4 c = sym (length-take-le _ _ (search needs))
 
 read-rest-requires : tie.Need-read-rest-requires
-read-rest-requires c κs = (search needs, (omega (arith, slice-aggregate-read-rest-2 (c .before .before)), omega (arith, slice-aggregate-read-rest-3 (c .before), slice-aggregate-read-rest-4 c)))
+read-rest-requires c κs = (
+  search needs,
+  (
+    omega (arith, slice-aggregate-read-rest-2 (c .before .before)),
+    omega (arith, slice-aggregate-read-rest-3 (c .before), slice-aggregate-read-rest-4 c),
+  ),
+)
 
 same-length : tie.Need-same-length
 same-length c = search needs

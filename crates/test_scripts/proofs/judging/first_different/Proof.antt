@@ -1,4 +1,5 @@
--- `judging::first_different` meets its contract. The loop's invariant: the search from `i` on finds what the search from 0 on finds. Assumes nothing.
+-- `judging::first_different` meets its contract. The loop's invariant: the search from `i` on finds
+-- what the search from 0 on finds. Assumes nothing.
 use mathlib.Core.Path.{_≡_, ap, sym, _∙_}
 use mathlib.Core.Bool.{Bool, cond}
 use Prim.Native.Nat.{suc, _≤_, _-_}
@@ -24,7 +25,14 @@ abbrev μ-loop : tie.MeasureT-loop
 μ-loop out stored i₀ i-end i = i-end - i
 
 -- what `same` answers of word i decides where the search ends
-looked : (c : tie.After-same Inv-loop μ-loop) → cond (c .same .result) (firstFrom (c .before .before .before .before .before .before .args .out .now) (c .before .before .before .before .before .before .args .stored .now) (suc (c .before .before .before .before .loop .i)) (length (c .before .before .before .before .before .before .args .out .now) - suc (c .before .before .before .before .loop .i))) (c .before .before .before .before .loop .i) ≡ firstDifferent (c .before .before .before .before .before .before .args .out .now) (c .before .before .before .before .before .before .args .stored .now)
+looked : (c : tie.After-same Inv-loop μ-loop) →
+    cond (c .same .result) (firstFrom (c .before .before .before .before .before .before .args .out .now)
+    (c .before .before .before .before .before .before .args .stored .now)
+    (suc (c .before .before .before .before .loop .i))
+    (length (c .before .before .before .before .before .before .args .out .now) - suc
+    (c .before .before .before .before .loop .i))) (c .before .before .before .before .loop .i) ≡
+    firstDifferent (c .before .before .before .before .before .before .args .out .now)
+    (c .before .before .before .before .before .before .args .stored .now)
 looked c =
     let at = c .before .before .before .before in
     let out = at .before .before .args .out .now in
@@ -32,8 +40,10 @@ looked c =
     let i = at .loop .i in
     let f : SFits w32 (getD out i (pos 0)) = search needs in
     let told : c .same .result ≡ agrees out stored i =
-    c .same .ensures ∙ ap (λ (z : ℤ). sameF (fromBits z) (c .before .number .result)) (toZ-ofZ f) ∙ ap (sameF (fromBits (getD out i (pos 0)))) (c .before .number .ensures) in
-    ap (λ (b : Bool). cond b (firstFrom out stored (suc i) (length out - suc i)) i) told ∙ sym (looks out stored i (length out) (omega arith)) ∙ at .loop .inv .0
+    c .same .ensures ∙ ap (λ (z : ℤ). sameF (fromBits z) (c .before .number .result)) (toZ-ofZ f) ∙
+    ap (sameF (fromBits (getD out i (pos 0)))) (c .before .number .ensures) in
+    ap (λ (b : Bool). cond b (firstFrom out stored (suc i) (length out - suc i)) i) told ∙
+    sym (looks out stored i (length out) (omega arith)) ∙ at .loop .inv .0
 
 loop-holds : tie.Need-loop-holds Inv-loop μ-loop
 unfolding firstDifferent
@@ -61,7 +71,8 @@ loop-less : tie.Need-loop-less Inv-loop μ-loop
 loop-less c = search needs
 
 loop-again : tie.Need-loop-again Inv-loop μ-loop
-loop-again c = (rw add-one (rw (not-false (c .before .same .result) (c .if1 .left)) at (looked (c .before))), search needs)
+loop-again c =
+    (rw add-one (rw (not-false (c .before .same .result) (c .if1 .left)) at (looked (c .before))), search needs)
 
 returns-2 : tie.Need-returns-2 Inv-loop μ-loop
 returns-2 c =

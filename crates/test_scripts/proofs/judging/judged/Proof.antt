@@ -1,4 +1,5 @@
--- `judging::judged` meets its contract: each end is the verdict by what was compared up to it. Assumes nothing.
+-- `judging::judged` meets its contract: each end is the verdict by what was compared up to it.
+-- Assumes nothing.
 use mathlib.Core.Path.{_≡_, sym, ap, _∙_}
 use lib.ListN.{length}
 use Rattle.fixed.specs.declared.Fixed.{Fixed}
@@ -13,17 +14,29 @@ use Rattle.test_scripts.proofs.judging.judged.Statement.{statement}
 use Rattle.test_scripts.proofs.judging.judged.Tie as tie
 
 -- what the run leaves, of the words that are lent
-ran : (c : tie.After-run-script) → Scripted (scriptOf (c .before .before .before .before .before .before .before .before .before .args .script .now) (lent (numberAt (rawAt (c .before .before .before .before .before .before .before .before .before .args .head .now)) 2) (length (c .before .before .before .before .before .before .before .before .before .args .out .now)) (c .before .before .before .before .before .before .before .before .before .args .out .now))) (c .run-script .result) (c .run-script .last .1 .0)
+ran : (c : tie.After-run-script) →
+    Scripted (scriptOf (c .before .before .before .before .before .before .before .before .before .args .script .now)
+    (lent (numberAt (rawAt (c .before .before .before .before .before .before .before .before .before .args .head .now))
+    2) (length (c .before .before .before .before .before .before .before .before .before .args .out .now))
+    (c .before .before .before .before .before .before .before .before .before .args .out .now)))
+    (c .run-script .result) (c .run-script .last .1 .0)
 ran c =
     let n = c .before .before .before .before in
     let a = n .before .before .before .before .before .args in
-    let e = c .before .before .before .lend .ensures ∙ ap (λ (f : Fixed). lent f (length (a .out .now)) (a .out .now)) (n .number .ensures) in
+    let e = c .before .before .before .lend .ensures ∙
+    ap (λ (f : Fixed). lent f (length (a .out .now)) (a .out .now)) (n .number .ensures) in
     rw e at (c .run-script .ensures)
 
-number-agrees : (c : tie.Else1) → numberOf (c .before .before .before .before .run-script .result) ≡ rawAt (c .before .before .before .before .before .before .before .before .before .before .before .before .before .args .head .now) 4
+number-agrees : (c : tie.Else1) →
+    numberOf (c .before .before .before .before .run-script .result) ≡
+    rawAt (c .before .before .before .before .before .before .before .before .before .before .before .before .before
+    .args .head .now) 4
 number-agrees c = sym (c .before .before .code .ensures) ∙ c .if1 .left ∙ c .before .natural .ensures .0
 
-place-agrees : (c : tie.Else2) → placeOf (c .before .before .before .before .before .before .before .run-script .result) ≡ rawAt (c .before .before .before .before .before .before .before .before .before .before .before .before .before .before .before .before .args .head .now) 5
+place-agrees : (c : tie.Else2) →
+    placeOf (c .before .before .before .before .before .before .before .run-script .result) ≡
+    rawAt (c .before .before .before .before .before .before .before .before .before .before .before .before .before
+    .before .before .before .args .head .now) 5
 place-agrees c = sym (c .before .before .place .ensures) ∙ c .if2 .left ∙ c .before .natural2 .ensures .0
 
 number-requires : tie.Need-number-requires
@@ -48,7 +61,9 @@ same-length : tie.Need-same-length
 same-length c = search needs
 
 returns : tie.Need-returns
-returns c = other-number _ _ _ _ _ (ran (c .before .before .before .before)) (λ e. c .if1 .taken (c .before .before .code .ensures ∙ e ∙ sym (c .before .natural .ensures .0)))
+returns c =
+    other-number _ _ _ _ _ (ran (c .before .before .before .before))
+    (λ e. c .if1 .taken (c .before .before .code .ensures ∙ e ∙ sym (c .before .natural .ensures .0)))
 
 place-requires : tie.Need-place-requires
 place-requires c κs = search needs
@@ -62,7 +77,8 @@ same-length-2 c = search needs
 returns-2 : tie.Need-returns-2
 returns-2 c =
     let n = c .before .before .before in
-    other-place _ _ _ _ _ (ran (n .before .before .before .before)) (number-agrees n) (λ e. c .if2 .taken (c .before .before .place .ensures ∙ e ∙ sym (c .before .natural2 .ensures .0)))
+    other-place _ _ _ _ _ (ran (n .before .before .before .before)) (number-agrees n)
+    (λ e. c .if2 .taken (c .before .before .place .ensures ∙ e ∙ sym (c .before .natural2 .ensures .0)))
 
 first-different-requires : tie.Need-first-different-requires
 first-different-requires c κs = search needs
@@ -75,7 +91,8 @@ returns-3 c =
     let p = c .before .before .before in
     let n = p .before .before .before in
     let e = c .before .first-different .ensures in
-    ap Word e ∙ other-word _ _ _ _ _ (ran (n .before .before .before .before)) (number-agrees n) (place-agrees p) (rw e at (c .if3 .taken))
+    ap Word e ∙ other-word _ _ _ _ _ (ran (n .before .before .before .before)) (number-agrees n) (place-agrees p)
+    (rw e at (c .if3 .taken))
 
 same-length-4 : tie.Need-same-length-4
 same-length-4 c = search needs
@@ -85,7 +102,8 @@ returns-4 c =
     let p = c .before .before .before in
     let n = p .before .before .before in
     let e = c .before .first-different .ensures in
-    same-words _ _ _ _ _ (ran (n .before .before .before .before)) (number-agrees n) (place-agrees p) (rw e at (c .if3 .left))
+    same-words _ _ _ _ _ (ran (n .before .before .before .before)) (number-agrees n) (place-agrees p)
+    (rw e at (c .if3 .left))
 
 pub judged-spec : {M : Type 1} → statement M
 judged-spec =

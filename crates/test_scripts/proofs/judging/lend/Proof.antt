@@ -1,4 +1,5 @@
--- `judging::lend` meets its contract. The loop's invariant: the first `i` words are lent, and `word` is the next one. Assumes nothing.
+-- `judging::lend` meets its contract. The loop's invariant: the first `i` words are lent, and
+-- `word` is the next one. Assumes nothing.
 use mathlib.Core.Path.{_≡_, refl, ap, _∙_}
 use mathlib.Core.List.{List}
 use Prim.Native.Nat.{ℕ, _≤_, _-_}
@@ -53,8 +54,12 @@ loop-again c =
     let l = c .before .before .before .loop in
     let a = c .before .before .before .before .args in
     let f : SFits w32 (l .word .bits) = search needs in (
-      rw (toZ-ofZ f, add-one) (ap (λ (o : List ℤ). set o (l .i) (l .word .bits)) (l .inv .0) ∙ ap (λ (w : Fixed). set (lent (a .fill) (l .i) (a .out .now)) (l .i) (w .bits)) (l .inv .1 .0)),
-      (rw add-one (c .add .ensures ∙ ap (λ (w : Fixed). addF w (fromBits (negℤ (pos 1640531535)))) (l .inv .1 .0)), search needs),
+      rw (toZ-ofZ f, add-one) (ap (λ (o : List ℤ). set o (l .i) (l .word .bits)) (l .inv .0) ∙
+          ap (λ (w : Fixed). set (lent (a .fill) (l .i) (a .out .now)) (l .i) (w .bits)) (l .inv .1 .0)),
+      (
+        rw add-one (c .add .ensures ∙ ap (λ (w : Fixed). addF w (fromBits (negℤ (pos 1640531535)))) (l .inv .1 .0)),
+        search needs,
+      ),
     )
 
 same-length : tie.Need-same-length Inv-loop μ-loop
@@ -63,7 +68,8 @@ same-length c = lent-now (c .before)
 returns : tie.Need-returns Inv-loop μ-loop
 returns c =
     let n : c .before .loop .i ≡ length (c .before .before .args .out .now) = omega arith in
-    c .before .loop .inv .0 ∙ ap (λ (k : ℕ). lent (c .before .before .args .fill) k (c .before .before .args .out .now)) n
+    c .before .loop .inv .0 ∙ ap (λ (k : ℕ). lent (c .before .before .args .fill) k (c .before .before .args .out .now))
+    n
 
 pub lend-spec : {M : Type 1} → statement M
 lend-spec =

@@ -1,4 +1,5 @@
--- `report::run` is safe and ends. The loop's invariant: `i` is at most the count. The measure is what is left of the count. Assumes nothing.
+-- `report::run` is safe and ends. The loop's invariant: `i` is at most the count. The measure is
+-- what is left of the count. Assumes nothing.
 use Prim.Native.Nat.{_≤_, _-_}
 use borrow.Author.Needs.{needs}
 use Rattle.test_scripts.proofs.report.run.Statement.{statement}

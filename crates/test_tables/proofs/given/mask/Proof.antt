@@ -1,4 +1,5 @@
--- `mask` meets its contract. The loop's invariant: the bytes are the first `i` of the row, and zeros, 13 in all. Assumes nothing.
+-- `mask` meets its contract. The loop's invariant: the bytes are the first `i` of the row, and
+-- zeros, 13 in all. Assumes nothing.
 use mathlib.Core.Path.{_≡_, refl, sym, ap, _∙_}
 use mathlib.Core.List.{List, [], _∷_, _++_, append-assoc}
 use Prim.Native.Nat.{ℕ, zero, suc, _+_, _-_, _≤_, _<_}
@@ -26,16 +27,21 @@ bytes-more row at zero =
     ap (λ (k : ℕ). countIn row k 255 ∷ []) e
 bytes-more row at (suc n) =
     let e : at + 1 + n ≡ at + suc n = omega arith in
-    ap (λ (l : List ℕ). countIn row at 255 ∷ l) (bytes-more row (at + 1) n ∙ ap (λ (k : ℕ). bytesIn row (at + 1) n ++ countIn row k 255 ∷ []) e)
+    ap (λ (l : List ℕ). countIn row at 255 ∷ l)
+    (bytes-more row (at + 1) n ∙ ap (λ (k : ℕ). bytesIn row (at + 1) n ++ countIn row k 255 ∷ []) e)
 
 -- one byte more is stored, and the rest stay zeros
-stored : (row : List ℤ) (at n : ℕ) → n < 13 → set (bytesIn row at n ++ replicate (13 - n) 0) n (countIn row (at + n) 255) ≡ bytesIn row at (n + 1) ++ replicate (13 - (n + 1)) 0
+stored : (row : List ℤ) (at n : ℕ) → n < 13 →
+    set (bytesIn row at n ++ replicate (13 - n) 0) n (countIn row (at + n) 255) ≡
+    bytesIn row at (n + 1) ++ replicate (13 - (n + 1)) 0
 stored row at n h =
     let left : 13 - n ≡ suc (13 - (n + 1)) = omega arith in
-    rw left (set-at (bytesIn row at n) 0 _ (countIn row (at + n) 255) n (bytes-length row at n) ∙ sym (rw (add-one n, bytes-more row at n, append-assoc)))
+    rw left (set-at (bytesIn row at n) 0 _ (countIn row (at + n) 255) n (bytes-length row at n) ∙
+    sym (rw (add-one n, bytes-more row at n, append-assoc)))
 
 abbrev Inv-loop : tie.InvT-loop
-Inv-loop row at n bytes₀ i₀ bytes i = (bytes ≡ bytesIn row (at + 1) i ++ replicate (13 - i) 0) × ((i ≤ n) × (length bytes ≡ 13))
+Inv-loop row at n bytes₀ i₀ bytes i =
+    (bytes ≡ bytesIn row (at + 1) i ++ replicate (13 - i) 0) × ((i ≤ n) × (length bytes ≡ 13))
 
 abbrev μ-loop : tie.MeasureT-loop
 μ-loop row at n bytes₀ i₀ bytes i = n - i
@@ -74,7 +80,8 @@ loop-again c =
     let row = l .before .before .args .row .now in
     let at = l .before .before .args .at + 1 in
     let i = l .loop .i in
-    let next = ap (λ (b : List ℕ). set b i (c .count2 .result)) (l .loop .inv .0) ∙ ap (set (bytesIn row at i ++ replicate (13 - i) 0) i) (c .count2 .ensures) in
+    let next = ap (λ (b : List ℕ). set b i (c .count2 .result)) (l .loop .inv .0) ∙
+    ap (set (bytesIn row at i ++ replicate (13 - i) 0) i) (c .count2 .ensures) in
     (next ∙ stored row at i (search needs), (search needs, search needs))
 
 sub-new : tie.Need-sub-new Inv-loop μ-loop
@@ -99,7 +106,8 @@ returns c =
     let all : l .before .count .result - 0 ≡ i = omega arith in
     let end : i ≡ l .before .count .result = omega arith in
     let taken = ap (take i) (l .loop .inv .0) ∙ take-at (bytesIn row at i) _ i (bytes-length row at i) in
-    c .new .ensures ∙ ap maskOf (ap (λ (k : ℕ). take k (l .loop .bytes)) all ∙ taken ∙ ap (bytesIn row at) (end ∙ l .before .count .ensures))
+    c .new .ensures ∙ ap maskOf
+    (ap (λ (k : ℕ). take k (l .loop .bytes)) all ∙ taken ∙ ap (bytesIn row at) (end ∙ l .before .count .ensures))
 
 pub mask-spec : {M : Type 1} → statement M
 mask-spec =

@@ -1,4 +1,5 @@
--- `state` meets its contract, by the contracts of its calls: a scale of at least one bit is above 0. Assumes nothing.
+-- `state` meets its contract, by the contracts of its calls: a scale of at least one bit is above
+-- 0. Assumes nothing.
 use mathlib.Core.Path.{_≡_, refl, ap, _∙_}
 use mathlib.Core.Bool.{Bool, true, false, cond}
 use lib.IntN.{pos}
@@ -40,8 +41,10 @@ returns c =
     let m = c .before in
     let f = m .before in
     let row = f .before .before .args .row .now in
-    let scale : m .max .result ≡ maxF (fixedIn row 1) (fromBits (pos 1)) = m .max .ensures ∙ ap (λ (a : Fixed). maxF a (fromBits (pos 1))) (f .fixed .ensures) in
-    c .new .ensures ∙ ap (λ (p : HintParams). stateOf p (m .max .result)) (f .before .params .ensures) ∙ ap (stateOf (paramsIn row 7)) scale
+    let scale : m .max .result ≡ maxF (fixedIn row 1) (fromBits (pos 1)) = m .max .ensures ∙
+    ap (λ (a : Fixed). maxF a (fromBits (pos 1))) (f .fixed .ensures) in
+    c .new .ensures ∙ ap (λ (p : HintParams). stateOf p (m .max .result)) (f .before .params .ensures) ∙
+    ap (stateOf (paramsIn row 7)) scale
 
 pub state-spec : {M : Type 1} → statement M
 state-spec = tie.close (tie.spec params-requires fixed-requires max-requires new-requires returns)

@@ -1,4 +1,5 @@
--- `input::next_row` is safe and ends. The loop's invariant: `i` is at most the row's end, and the places stay as many as they were. The measure is what is left of the row. Assumes nothing.
+-- `input::next_row` is safe and ends. The loop's invariant: `i` is at most the row's end, and the
+-- places stay as many as they were. The measure is what is left of the row. Assumes nothing.
 use Prim.Native.Nat.{_≤_, _-_}
 use mathlib.Core.Path.{_≡_}
 use lib.ListN.{length}

@@ -22,7 +22,8 @@ returns : tie.Need-returns
 returns c =
     let n = c .before .before in
     let fits : SFits w32 (n .number .result) = search needs in
-    c .least .ensures ∙ ap (min (n .before .args .most)) (c .before .whole .ensures ∙ ap wholeOf (toZ-ofZ fits ∙ n .number .ensures))
+    c .least .ensures ∙ ap (min (n .before .args .most))
+    (c .before .whole .ensures ∙ ap wholeOf (toZ-ofZ fits ∙ n .number .ensures))
 
 pub count-spec : {M : Type 1} → statement M
 count-spec = tie.close (tie.spec number-requires whole-requires least-requires returns)

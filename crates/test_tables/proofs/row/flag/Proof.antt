@@ -16,7 +16,8 @@ returns : tie.Need-returns
 returns c =
     let fits : SFits w32 (c .number .result) = search needs in
     let one : SFits w32 (pos 1) = search needs in
-    same-bits w32 (c .number .result) (pos 1) fits one ∙ ap (λ (z : ℤ). sameF (fromBits z) (fromBits (pos 1))) (c .number .ensures)
+    same-bits w32 (c .number .result) (pos 1) fits one ∙
+    ap (λ (z : ℤ). sameF (fromBits z) (fromBits (pos 1))) (c .number .ensures)
 
 pub flag-spec : {M : Type 1} → statement M
 flag-spec = tie.close (tie.spec number-requires returns)

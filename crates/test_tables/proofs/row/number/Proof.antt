@@ -17,7 +17,8 @@ shared-slice-copy-out-result c = search needs
 
 returns : tie.Need-returns
 returns c =
-    let fits : SFits w32 (getD (c .before .before .args .row .now) (c .before .before .args .at) (pos 0)) = search needs in
+    let fits : SFits w32 (getD (c .before .before .args .row .now) (c .before .before .args .at) (pos 0)) = search needs
+    in
     toZ-ofZ fits
 
 returns-2 : tie.Need-returns-2

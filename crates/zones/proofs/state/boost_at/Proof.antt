@@ -1,4 +1,5 @@
--- `boost_at` meets its contract; the divisor is above 0 since the scale, above 0, is below it. Assumes nothing.
+-- `boost_at` meets its contract; the divisor is above 0 since the scale, above 0, is below it.
+-- Assumes nothing.
 use mathlib.Core.Path.{_≡_, sym, _∙_}
 use mathlib.Core.Bool.{true}
 use Rattle.fixed.specs.Fixed.{lessF}
@@ -28,7 +29,8 @@ returns : tie.Need-returns
 unfolding boostOf
 returns c =
     let t = c .before .before .before in
-    rw (sym (t .before .less .ensures), t .if1 .taken) (c .min .ensures ∙ rw (c .before .sub .ensures, c .before .before .mul-div .ensures))
+    rw (sym (t .before .less .ensures), t .if1 .taken)
+    (c .min .ensures ∙ rw (c .before .sub .ensures, c .before .before .mul-div .ensures))
 
 returns-2 : tie.Need-returns-2
 unfolding boostOf

@@ -8,7 +8,9 @@ use Rattle.zones.proofs.state.clamped.Statement.{statement}
 use Rattle.zones.proofs.state.clamped.Tie as tie
 
 -- what the second test says
-tested : (c : tie.After-less2) → lessF (divF ONE (c .before .before .before .before .args .greatest)) (c .before .before .before .before .args .blue-scale) ≡ c .less2 .result
+tested : (c : tie.After-less2) →
+    lessF (divF ONE (c .before .before .before .before .args .greatest))
+    (c .before .before .before .before .args .blue-scale) ≡ c .less2 .result
 tested c = sym (c .less2 .ensures ∙ rw (c .before .div .ensures))
 
 less-requires : tie.Need-less-requires
@@ -28,13 +30,23 @@ returns-2 : tie.Need-returns-2
 unfolding clampedScale
 returns-2 c =
     let e = c .before .before .before in
-    rw (sym (e .before .less .ensures), not-false (e .before .less .result) (e .if1 .left), tested (c .before) ∙ c .if2 .taken) (c .before .before .div .ensures)
+    rw (
+      sym (e .before .less .ensures),
+      not-false (e .before .less .result) (e .if1 .left),
+      tested (c .before) ∙
+          c .if2 .taken,
+    ) (c .before .before .div .ensures)
 
 returns-3 : tie.Need-returns-3
 unfolding clampedScale
 returns-3 c =
     let e = c .before .before .before in
-    rw (sym (e .before .less .ensures), not-false (e .before .less .result) (e .if1 .left), tested (c .before) ∙ c .if2 .left)
+    rw (
+      sym (e .before .less .ensures),
+      not-false (e .before .less .result) (e .if1 .left),
+      tested (c .before) ∙
+          c .if2 .left,
+    )
 
 pub clamped-spec : {M : Type 1} → statement M
 clamped-spec =

@@ -40,7 +40,15 @@ returns-2 : tie.Need-returns-2
 returns-2 c =
     let w = c .before .before .before .before in
     rw (c .before .before .before .before .before .before .before .before .self2 .given .1)
-    (rw (c .at-device3 .ensures, c .before .add .ensures, c .before .before .at-device2 .ensures, c .before .before .before .sub2 .ensures, w .mul .ensures, w .before .half .ensures, w .before .before .sub .ensures))
+    (rw (
+      c .at-device3 .ensures,
+      c .before .add .ensures,
+      c .before .before .at-device2 .ensures,
+      c .before .before .before .sub2 .ensures,
+      w .mul .ensures,
+      w .before .half .ensures,
+      w .before .before .sub .ensures,
+    ))
 
 pub around-spec : {M : Type 1} → statement M
 around-spec =

@@ -1,4 +1,5 @@
--- `Edges::may_enter` meets its contract: each answer by the case and the test that led to it. Assumes nothing.
+-- `Edges::may_enter` meets its contract: each answer by the case and the test that led to it.
+-- Assumes nothing.
 use borrow.Author.Needs.{needs}
 use mathlib.Core.Path.{sym}
 use Rattle.hintmap.specs.Insert.{mayEnter}

@@ -1,4 +1,5 @@
--- `Edges::too_high` meets its contract: each answer by the case and the test that led to it. Assumes nothing.
+-- `Edges::too_high` meets its contract: each answer by the case and the test that led to it.
+-- Assumes nothing.
 use borrow.Author.Needs.{needs}
 use mathlib.Core.Path.{sym}
 use Rattle.hintmap.specs.Insert.{tooHigh}
@@ -30,7 +31,12 @@ returns-2 c = rw (c .before .before .self .given .1) (c .less .ensures)
 
 returns-3 : tie.Need-returns-3
 unfolding tooHigh
-returns-3 c = rw (c .before .before .before .before .self2 .given .1, sym (c .before .before .less2 .ensures), c .before .if1 .left) (c .less3 .ensures)
+returns-3 c =
+    rw (
+      c .before .before .before .before .self2 .given .1,
+      sym (c .before .before .less2 .ensures),
+      c .before .if1 .left,
+    ) (c .less3 .ensures)
 
 pub too-high-spec : {M : Type 1} → statement M
 too-high-spec =

@@ -17,7 +17,8 @@ put-requires : tie.Need-put-requires
 put-requires c κs =
     let o = c .before .before .before in
     let a = o .before .args in
-    subst (Fits (a .self)) (sym (o .outcome .ensures) ∙ c .before .at .given .1) (outcome-fits (a .self) (a .e) (a .initial) (a .given))
+    subst (Fits (a .self)) (sym (o .outcome .ensures) ∙ c .before .at .given .1)
+    (outcome-fits (a .self) (a .e) (a .initial) (a .given))
 
 enum-told : tie.Need-enum-told
 enum-told c = search needs
@@ -26,7 +27,8 @@ returns : tie.Need-returns
 unfolding insertIn
 returns c =
     let o = c .before .before .before .before in
-    c .put .ensures ∙ ap (λ (x : Outcome). insertBy x (o .before .args .self)) (sym (c .before .before .at .given .1) ∙ o .outcome .ensures)
+    c .put .ensures ∙ ap (λ (x : Outcome). insertBy x (o .before .args .self))
+    (sym (c .before .before .at .given .1) ∙ o .outcome .ensures)
 
 returns-2 : tie.Need-returns-2
 unfolding insertIn

@@ -1,4 +1,5 @@
--- `HintMap::put` meets its contract. The loop's invariant: the edges from `k` on have gone up by as many places as edges are put in. Assumes nothing.
+-- `HintMap::put` meets its contract. The loop's invariant: the edges from `k` on have gone up by as
+-- many places as edges are put in. Assumes nothing.
 use mathlib.Core.Path.{_≡_, sym, ap, _∙_}
 use mathlib.Core.List.{List}
 use Prim.Native.Nat.{ℕ, _≤_, _+_}
@@ -40,7 +41,14 @@ module _ (m : HintMap) (n at : ℕ) (l : at ≤ m .len) (r : m .len + n ≤ leng
   put-two b t q = rw q (ap (with m 2) (shifted-two (m .edges) (m .len) at noHint l b t (omega arith)))
 
 abbrev Inv-loop : tie.InvT-loop
-Inv-loop at e self₀ n k₀ self k = (at ≤ k) × ((k ≤ k₀) × (self ≡ record { edges = shifted (self₀ .edges) k₀ n k; len = self₀ .len; «is_valid» = self₀ .«is_valid»; scale = self₀ .scale }))
+Inv-loop at e self₀ n k₀ self k =
+    (at ≤ k) × ((k ≤ k₀) × (self ≡
+    record {
+      edges = shifted (self₀ .edges) k₀ n k;
+      len = self₀ .len;
+      «is_valid» = self₀ .«is_valid»;
+      scale = self₀ .scale;
+    }))
 
 abbrev μ-loop : tie.MeasureT-loop
 μ-loop at e self₀ n k₀ self k = k
@@ -64,15 +72,22 @@ module _ (c : tie.After-loop Inv-loop μ-loop) where
   near : c .before .before .before .args .at + c .before .before .count .result ≤ 96
   near = omega (arith, few (c .before .before))
 
-  open-at : c .before .loop .self ≡ opened (map (c .before .before)) (c .before .before .count .result) (c .before .before .before .args .at)
-  open-at = c .before .loop .inv .1 .1 ∙ ap (opened (map (c .before .before)) (c .before .before .count .result)) (omega arith)
+  open-at : c .before .loop .self ≡
+      opened (map (c .before .before)) (c .before .before .count .result) (c .before .before .before .args .at)
+  open-at =
+      c .before .loop .inv .1 .1 ∙
+      ap (opened (map (c .before .before)) (c .before .before .count .result)) (omega arith)
 
 -- as many as the case has
 one : (c : tie.After-known-told Inv-loop μ-loop) → c .before .before .before .before .before .count .result ≡ 1
-one c = c .before .before .before .before .before .count .ensures ∙ ap (λ (e : Edges). length (edgesOf e)) (c .before .e .given .1)
+one c =
+    c .before .before .before .before .before .count .ensures ∙
+    ap (λ (e : Edges). length (edgesOf e)) (c .before .e .given .1)
 
 two : (c : tie.After-known-told2 Inv-loop μ-loop) → c .before .before .before .before .before .count .result ≡ 2
-two c = c .before .before .before .before .before .count .ensures ∙ ap (λ (e : Edges). length (edgesOf e)) (c .before .e2 .given .1)
+two c =
+    c .before .before .before .before .before .count .ensures ∙
+    ap (λ (e : Edges). length (edgesOf e)) (c .before .e2 .given .1)
 
 add-self : tie.Need-add-self Inv-loop μ-loop
 add-self c = omega (arith, few c)
@@ -105,7 +120,8 @@ loop-again : tie.Need-loop-again Inv-loop μ-loop
 loop-again c =
     let at = c .before .before in
     let m = map (at .before) in
-    let step = shifted-step-at (m .edges) (m .len) _ (at .loop .k) noHint (omega arith) (omega arith) (room (at .before)) in
+    let step = shifted-step-at (m .edges) (m .len) _ (at .loop .k) noHint (omega arith) (omega arith)
+    (room (at .before)) in
     (omega arith, (omega arith, rw (at .loop .inv .1 .1) (ap (with m (at .before .count .result)) step)))
 
 enum-known-e : tie.Need-enum-known-e Inv-loop μ-loop

@@ -1,5 +1,6 @@
--- `HintMap::transform` meets its contract. The first loop's invariant: the edges that the walk up passes are `i` and those that it passes after the next.
--- The second's: `i` is where the walk up ends, so that its turn never goes on. Assumes nothing.
+-- `HintMap::transform` meets its contract. The first loop's invariant: the edges that the walk up
+-- passes are `i` and those that it passes after the next. The second's: `i` is where the walk up
+-- ends, so that its turn never goes on. Assumes nothing.
 use borrow.Author.Needs.{needs}
 use mathlib.Core.Path.{_≡_, sym, ap, _∙_}
 use mathlib.Core.Bool.{false, _&&_, true≢false}
@@ -28,7 +29,8 @@ cut m n = record { edges = m .edges; len = n; «is_valid» = m .«is_valid»; sc
 
 abbrev Inv-loop : tie.InvT-loop
 Inv-loop height self len i₀ i =
-    (i < len) × ((len ≤ 96) × (reach (drop 1 (view (cut self len))) height ≡ i + reach (drop (i + 1) (view (cut self len))) height))
+    (i < len) × ((len ≤ 96) ×
+    (reach (drop 1 (view (cut self len))) height ≡ i + reach (drop (i + 1) (view (cut self len))) height))
 
 abbrev μ-loop : tie.MeasureT-loop
 μ-loop height self len i₀ i = len - i
@@ -51,7 +53,9 @@ module _ (c : tie.After-least Inv-loop μ-loop Inv-loop2 μ-loop2) where
   room = omega (arith, c .least .ensures)
 
   same : view (c .before .args .t1) ≡ view held
-  same = sym (ap (λ (n : ℕ). take n (held .edges)) (c .least .ensures) ∙ take-least (c .before .args .t1 .len) 96 (held .edges) long)
+  same =
+      sym (ap (λ (n : ℕ). take n (held .edges)) (c .least .ensures) ∙
+      take-least (c .before .args .t1 .len) 96 (held .edges) long)
 
   -- what the walk up asks of the edges
   known : Asked held (λ (e : Hint). atMostF (e .«cs_coord») (c .before .args .height))
@@ -70,11 +74,14 @@ module _ (c : tie.At-loop2 Inv-loop μ-loop Inv-loop2 μ-loop2) where
 
   -- the line that is taken, by the place of the edge
   abbrev taken : ℕ → Fixed
-  taken k = lineBy (eqb k 0 && lessF at (getD (map .edges) 0 noHint .«cs_coord»)) (getD (map .edges) 0 noHint) (getD (map .edges) k noHint) (map .scale) at
+  taken k =
+      lineBy (eqb k 0 && lessF at (getD (map .edges) 0 noHint .«cs_coord»)) (getD (map .edges) 0 noHint)
+      (getD (map .edges) k noHint) (map .scale) at
 
   mapped : mapOf (view (begin .before .args .t1)) (map .scale) at ≡ taken (c .loop2 .i)
   mapped =
-      ap (λ (es : List Hint). mapOf es (map .scale) at) (same begin) ∙ map-some (map .edges) (map .len) (map .scale) at (omega arith) (omega (arith, long begin)) ∙
+      ap (λ (es : List Hint). mapOf es (map .scale) at) (same begin) ∙
+      map-some (map .edges) (map .len) (map .scale) at (omega arith) (omega (arith, long begin)) ∙
       ap taken (sym (c .loop2 .inv .1 .1))
 
   no-way : 0 < c .loop2 .i → lessF at (getD (map .edges) (c .loop2 .i) noHint .«cs_coord») ≡ false
@@ -120,14 +127,27 @@ loop-less c = omega arith
 
 loop-again : tie.Need-loop-again Inv-loop μ-loop Inv-loop2 μ-loop2
 loop-again c =
-    let at = c .before .before .before .before in
-    (search needs, (at .loop .inv .1 .0, at .loop .inv .1 .1 ∙ known (at .before .before) .passes _ _ (c .before .before .before .loop-test .taken) (c .before .at-most .ensures) (c .if2 .left)))
+    let at = c .before .before .before .before in (
+      search needs,
+      (
+        at .loop .inv .1 .0,
+        at .loop .inv .1 .1 ∙
+            known (at .before .before) .passes _ _ (c .before .before .before .loop-test .taken)
+            (c .before .at-most .ensures) (c .if2 .left),
+      ),
+    )
 
 loop2-holds : tie.Need-loop2-holds Inv-loop μ-loop Inv-loop2 μ-loop2
 loop2-holds c =
     let at = c .before in (
       at .loop .inv .0,
-      (at .loop .inv .1 .0, sym (at .loop .inv .1 .1 ∙ ⊎-elim (λ t. known (at .before .before) .ends _ _ (t .left)) (λ t. known (at .before .before) .stops _ _ (t .0 .taken) (t .2 .ensures) (t .3 .taken)) (c .loop-test .came))),
+      (
+        at .loop .inv .1 .0,
+        sym (at .loop .inv .1 .1 ∙
+            ⊎-elim (λ t. known (at .before .before) .ends _ _ (t .left))
+            (λ t. known (at .before .before) .stops _ _ (t .0 .taken) (t .2 .ensures) (t .3 .taken))
+            (c .loop-test .came)),
+      ),
     )
 
 mul-edge : tie.Need-mul-edge Inv-loop μ-loop Inv-loop2 μ-loop2

@@ -1,4 +1,5 @@
--- `Pen::closing` meets its contract: with a start, what waits, unless it leads to the start, and a close. Assumes nothing.
+-- `Pen::closing` meets its contract: with a start, what waits, unless it leads to the start, and a
+-- close. Assumes nothing.
 use mathlib.Core.Path.{_≡_, sym, ap, _∙_}
 use mathlib.Core.List.{_∷_, [], _++_}
 use mathlib.Core.Logic.{⊎-elim}
@@ -11,8 +12,11 @@ use Rattle.pen.proofs.Words.{onto, all-pushed, same-count, few-flushing
 use Rattle.pen.proofs.strokes.Pen.closing.Statement.{statement}
 use Rattle.pen.proofs.strokes.Pen.closing.Tie as tie
 
--- where nothing waits, or what waits does not lead to the start, closing writes what flushing does, and a close
-all : (c : tie.At-match2-came) → flushWords (c .before .before .before .before .args .self) ++ pos 4 ∷ [] ≡ closingWords (c .before .before .before .before .args .self)
+-- where nothing waits, or what waits does not lead to the start, closing writes what flushing does,
+-- and a close
+all : (c : tie.At-match2-came) →
+    flushWords (c .before .before .before .before .args .self) ++ pos 4 ∷ [] ≡
+    closingWords (c .before .before .before .before .args .self)
 unfolding closingWords flushWords
 all c =
     rw (c .before .before .start .given .1)
@@ -48,7 +52,12 @@ unfolding closingWords emitted
 returns-2 c =
     let same = c .before .before .before in
     let line = same .before .before in
-    rw (line .before .before .before .start .given .1, line .waiting .given .1, sym (same .same .ensures), c .before .before .if1 .taken)
+    rw (
+      line .before .before .before .start .given .1,
+      line .waiting .given .1,
+      sym (same .same .ensures),
+      c .before .before .if1 .taken,
+    )
     (onto (pos 4 ∷ []) (c .before .none2 .ensures) (c .push .ensures))
 
 enum-told-2 : tie.Need-enum-told-2
@@ -58,13 +67,15 @@ flushing-requires : tie.Need-flushing-requires
 flushing-requires c κs = search needs
 
 push-requires-2 : tie.Need-push-requires-2
-push-requires-2 c κs = omega (arith, few-flushing (c .before .before .before .before .before .args .self) (c .flushing .ensures))
+push-requires-2 c κs =
+    omega (arith, few-flushing (c .before .before .before .before .before .args .self) (c .flushing .ensures))
 
 returns-3 : tie.Need-returns-3
 returns-3 c =
     let at = c .before .before in
     let pen = at .before .before .before .before .args .self in
-    onto (pos 4 ∷ []) (c .before .flushing .ensures) (c .push2 .ensures) ∙ all-pushed (flushWords pen) (pos 4 ∷ []) (omega (arith, flushing-short pen)) ∙
+    onto (pos 4 ∷ []) (c .before .flushing .ensures) (c .push2 .ensures) ∙
+    all-pushed (flushWords pen) (pos 4 ∷ []) (omega (arith, flushing-short pen)) ∙
     ap emitted (all at)
 
 pub closing-spec : {M : Type 1} → statement M

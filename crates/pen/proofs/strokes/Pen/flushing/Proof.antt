@@ -1,4 +1,5 @@
--- `Pen::flushing` meets its contract: with a waiting line, its three words, and else none. Assumes nothing.
+-- `Pen::flushing` meets its contract: with a waiting line, its three words, and else none. Assumes
+-- nothing.
 use mathlib.Core.List.{_∷_, []}
 use native.Mathlib.Omega.{arith}
 use lib.IntN.{pos}
@@ -25,7 +26,8 @@ returns : tie.Need-returns
 unfolding flushWords emitted
 returns c =
     let line = c .before .before .before .before .waiting .given in
-    rw (line .1) (onto (pointWords (line .0 .1 .0)) (onto (pos 2 ∷ []) (c .before .before .none .ensures) (c .before .push .ensures)) (c .point .ensures))
+    rw (line .1) (onto (pointWords (line .0 .1 .0))
+    (onto (pos 2 ∷ []) (c .before .before .none .ensures) (c .before .push .ensures)) (c .point .ensures))
 
 enum-told : tie.Need-enum-told
 enum-told c = search needs

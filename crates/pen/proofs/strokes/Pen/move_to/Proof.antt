@@ -16,14 +16,21 @@ push-requires : tie.Need-push-requires
 push-requires c κs = omega (arith, few-closing (c .before .args .self) (c .closing .ensures))
 
 point-requires : tie.Need-point-requires
-point-requires c κs = omega (arith, few-closing (c .before .before .args .self) (c .before .closing .ensures), same-count (c .push .ensures))
+point-requires c κs =
+    omega (
+      arith,
+      few-closing (c .before .before .args .self) (c .before .closing .ensures),
+      same-count (c .push .ensures),
+    )
 
 returns : tie.Need-returns
 unfolding moveOf
 returns c =
     let a = c .before .before .before .args in
-    let e = onto (pointWords (a .device)) (onto (pos 1 ∷ []) (c .before .before .closing .ensures) (c .before .push .ensures)) (c .point .ensures) in
-    rw (e ∙ all-pushed (closingWords (a .self)) (pos 1 ∷ pointWords (a .device)) (omega (arith, closing-short (a .self))))
+    let e = onto (pointWords (a .device))
+    (onto (pos 1 ∷ []) (c .before .before .closing .ensures) (c .before .push .ensures)) (c .point .ensures) in
+    rw (e ∙ all-pushed (closingWords (a .self)) (pos 1 ∷ pointWords (a .device))
+    (omega (arith, closing-short (a .self))))
 
 pub move-to-spec : {M : Type 1} → statement M
 move-to-spec = tie.close (tie.spec closing-requires push-requires point-requires returns)

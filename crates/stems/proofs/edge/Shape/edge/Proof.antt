@@ -1,4 +1,5 @@
--- `Shape::edge` meets its contract: each arm by what the shape holds there, and by the edge that is asked for. Assumes nothing.
+-- `Shape::edge` meets its contract: each arm by what the shape holds there, and by the edge that is
+-- asked for. Assumes nothing.
 use borrow.Author.Needs.{needs}
 use Rattle.stems.specs.Edge.{edgeOf}
 use Rattle.stems.proofs.edge.Shape.edge.Statement.{statement}

@@ -1,4 +1,5 @@
--- `StemHint::shape` meets its contract: each answer by the tests of the width that led to it. Assumes nothing.
+-- `StemHint::shape` meets its contract: each answer by the tests of the width that led to it.
+-- Assumes nothing.
 use borrow.Author.Needs.{needs}
 use mathlib.Core.Path.{_≡_}
 use mathlib.Core.Bool.{cond}
@@ -13,7 +14,11 @@ no-ghost : (c : tie.After-less) →
     shapeOf s ≡ cond (c .less .result) (Pair (s .max) (s .min)) (Pair (s .min) (s .max))
 unfolding shapeOf
 no-ghost c =
-    rw (← c .before .before .before .before .before .sub .ensures, ← c .before .before .before .before .same .ensures, c .before .before .before .if1 .left)
+    rw (
+      ← c .before .before .before .before .before .sub .ensures,
+      ← c .before .before .before .before .same .ensures,
+      c .before .before .before .if1 .left,
+    )
     (rw (← c .before .before .same2 .ensures, c .before .if2 .left, ← c .less .ensures))
 
 sub-requires : tie.Need-sub-requires
@@ -32,7 +37,11 @@ same-requires-2 c κs = search needs
 returns-2 : tie.Need-returns-2
 unfolding shapeOf
 returns-2 c =
-    rw (← c .before .before .before .before .sub .ensures, ← c .before .before .before .same .ensures, c .before .before .if1 .left)
+    rw (
+      ← c .before .before .before .before .sub .ensures,
+      ← c .before .before .before .same .ensures,
+      c .before .before .if1 .left,
+    )
     (rw (← c .before .same2 .ensures, c .if2 .taken))
 
 less-requires : tie.Need-less-requires

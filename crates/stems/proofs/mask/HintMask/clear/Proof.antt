@@ -1,4 +1,5 @@
--- `HintMask::clear` meets its contract: the byte of an active stem is at least its weight. Assumes nothing.
+-- `HintMask::clear` meets its contract: the byte of an active stem is at least its weight. Assumes
+-- nothing.
 use mathlib.Core.Path.{_≡_, sym, _∙_}
 use mathlib.Core.Bool.{true}
 use Prim.Native.Nat.{_/_, _<_}

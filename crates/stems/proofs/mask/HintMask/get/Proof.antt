@@ -1,4 +1,5 @@
--- `HintMask::get` meets its contract: no stem past the twelve bytes is active, and a weight is never 0. Assumes nothing.
+-- `HintMask::get` meets its contract: no stem past the twelve bytes is active, and a weight is
+-- never 0. Assumes nothing.
 use mathlib.Core.Path.{_≡_, sym}
 use native.Mathlib.Omega.{arith}
 use lib.ListN.{length}

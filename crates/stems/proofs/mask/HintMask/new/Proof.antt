@@ -1,4 +1,5 @@
--- `HintMask::new` meets its contract. The loop's invariant: the copy is the first `i` bytes, and zeros. Assumes nothing.
+-- `HintMask::new` meets its contract. The loop's invariant: the copy is the first `i` bytes, and
+-- zeros. Assumes nothing.
 use mathlib.Core.Path.{_≡_, refl, sym, _∙_}
 use mathlib.Core.List.{List, _++_, append-assoc}
 use Prim.Native.Nat.{ℕ, suc, _+_, _-_, _≤_, _<_}
@@ -13,11 +14,13 @@ use Rattle.stems.proofs.mask.HintMask.new.Statement.{statement}
 use Rattle.stems.proofs.mask.HintMask.new.Tie as tie
 
 -- One byte more is copied, and the rest stay zeros.
-more : (p : List ℕ) (i : ℕ) → i < length p → i < 12 → set (take i p ++ replicate (12 - i) 0) i (getD p i 0) ≡ take (i + 1) p ++ replicate (12 - (i + 1)) 0
+more : (p : List ℕ) (i : ℕ) → i < length p → i < 12 →
+    set (take i p ++ replicate (12 - i) 0) i (getD p i 0) ≡ take (i + 1) p ++ replicate (12 - (i + 1)) 0
 more p i h k =
     let n : 12 - i ≡ suc (12 - (i + 1)) = omega arith in
     let l : length (take i p) ≡ i = length-take-le i p (omega arith) in
-    rw n (set-at (take i p) 0 (replicate (12 - (i + 1)) 0) (getD p i 0) i l ∙ sym (rw (add-one, take-suc p i 0, append-assoc)))
+    rw n (set-at (take i p) 0 (replicate (12 - (i + 1)) 0) (getD p i 0) i l ∙
+    sym (rw (add-one, take-suc p i 0, append-assoc)))
 
 abbrev Inv-loop : tie.InvT-loop
 Inv-loop bytes n copy₀ i₀ copy i = (copy ≡ take i bytes ++ replicate (12 - i) 0) × ((i ≤ n) × (n ≤ 12))
@@ -30,7 +33,8 @@ all-requires c κs = search needs
 
 returns : tie.Need-returns Inv-loop μ-loop
 unfolding maskOf
-returns c = rw (lt-ltb 12 (length (c .before .before .before .args .bytes .now)) (c .before .if1 .taken)) (c .all .ensures)
+returns c =
+    rw (lt-ltb 12 (length (c .before .before .before .args .bytes .now)) (c .before .if1 .taken)) (c .all .ensures)
 
 loop-holds : tie.Need-loop-holds Inv-loop μ-loop
 loop-holds c = (refl, (search needs, search needs))

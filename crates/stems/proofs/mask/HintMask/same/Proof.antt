@@ -1,4 +1,5 @@
--- `HintMask::same` meets its contract. The loop's invariant: the answer for all bytes is that for the bytes from `i`. Assumes nothing.
+-- `HintMask::same` meets its contract. The loop's invariant: the answer for all bytes is that for
+-- the bytes from `i`. Assumes nothing.
 use mathlib.Core.Path.{_≡_, refl, sym, _∙_}
 use mathlib.Core.Bool.{_&&_}
 use mathlib.Core.List.{List}
@@ -15,7 +16,8 @@ use Rattle.stems.proofs.mask.HintMask.same.Statement.{statement}
 use Rattle.stems.proofs.mask.HintMask.same.Tie as tie
 
 -- The bytes from i are the one at i and those after it.
-more : (a b : List ℕ) (i : ℕ) → i < length a → i < length b → sameBytes (drop i a) (drop i b) ≡ eqb (getD a i 0) (getD b i 0) && sameBytes (drop (i + 1) a) (drop (i + 1) b)
+more : (a b : List ℕ) (i : ℕ) → i < length a → i < length b →
+    sameBytes (drop i a) (drop i b) ≡ eqb (getD a i 0) (getD b i 0) && sameBytes (drop (i + 1) a) (drop (i + 1) b)
 unfolding sameBytes
 more a b i h k = rw (add-one, drop-cons a i 0, drop-cons b i 0)
 
@@ -31,11 +33,13 @@ twelve s = (search needs, search needs)
 next : (c : tie.In-loop Inv-loop μ-loop) →
     let s = c .before .before .args in
     let i = c .before .loop .i in
-    sameMask (s .t1) (s .t2) ≡ eqb (getD (s .t1 .bytes) i 0) (getD (s .t2 .bytes) i 0) && sameBytes (drop (i + 1) (s .t1 .bytes)) (drop (i + 1) (s .t2 .bytes))
+    sameMask (s .t1) (s .t2) ≡ eqb (getD (s .t1 .bytes) i 0) (getD (s .t2 .bytes) i 0) &&
+    sameBytes (drop (i + 1) (s .t1 .bytes)) (drop (i + 1) (s .t2 .bytes))
 next c =
     let at = c .before in
     let n = twelve (at .before) in
-    at .loop .inv .1 ∙ more (at .before .args .t1 .bytes) (at .before .args .t2 .bytes) (at .loop .i) (omega arith) (omega arith)
+    at .loop .inv .1 ∙ more (at .before .args .t1 .bytes) (at .before .args .t2 .bytes) (at .loop .i) (omega arith)
+    (omega arith)
 
 loop-holds : tie.Need-loop-holds Inv-loop μ-loop
 loop-holds c = (search needs, refl)
@@ -64,7 +68,11 @@ returns-2 c =
     let at = c .before in
     let n = twelve (at .before) in
     let end : at .loop .i ≡ 12 = omega arith in
-    sym (at .loop .inv .1 ∙ rw (end, drop-of-length-le (at .before .args .t1 .bytes) {i = 12} (omega arith), drop-of-length-le (at .before .args .t2 .bytes) {i = 12} (omega arith)))
+    sym (at .loop .inv .1 ∙ rw (
+      end,
+      drop-of-length-le (at .before .args .t1 .bytes) {i = 12} (omega arith),
+      drop-of-length-le (at .before .args .t2 .bytes) {i = 12} (omega arith),
+    ))
 
 pub same-spec : {M : Type 1} → statement M
 same-spec =

@@ -11,7 +11,12 @@ is-bottom-requires c κs = search needs
 
 returns : tie.Need-returns
 unfolding holds
-returns c = rw (c .before .before .if1 .taken, sym (c .before .is-bottom .ensures), not-true (c .before .is-bottom .result) (c .if2 .taken))
+returns c =
+    rw (
+      c .before .before .if1 .taken,
+      sym (c .before .is-bottom .ensures),
+      not-true (c .before .is-bottom .result) (c .if2 .taken),
+    )
 
 within-requires : tie.Need-within-requires
 within-requires c κs = search needs
@@ -20,14 +25,23 @@ returns-2 : tie.Need-returns-2
 unfolding holds
 returns-2 c =
     let e = c .before in
-    rw (e .before .before .if1 .taken, sym (e .before .is-bottom .ensures), not-false (e .before .is-bottom .result) (e .if2 .left)) (c .within .ensures)
+    rw (
+      e .before .before .if1 .taken,
+      sym (e .before .is-bottom .ensures),
+      not-false (e .before .is-bottom .result) (e .if2 .left),
+    ) (c .within .ensures)
 
 is-top-requires : tie.Need-is-top-requires
 is-top-requires c κs = search needs
 
 returns-3 : tie.Need-returns-3
 unfolding holds
-returns-3 c = rw (c .before .before .if1 .left, sym (c .before .is-top .ensures), not-true (c .before .is-top .result) (c .if3 .taken))
+returns-3 c =
+    rw (
+      c .before .before .if1 .left,
+      sym (c .before .is-top .ensures),
+      not-true (c .before .is-top .result) (c .if3 .taken),
+    )
 
 within-requires-2 : tie.Need-within-requires-2
 within-requires-2 c κs = search needs
@@ -36,7 +50,11 @@ returns-4 : tie.Need-returns-4
 unfolding holds
 returns-4 c =
     let e = c .before in
-    rw (e .before .before .if1 .left, sym (e .before .is-top .ensures), not-false (e .before .is-top .result) (e .if3 .left)) (c .within2 .ensures)
+    rw (
+      e .before .before .if1 .left,
+      sym (e .before .is-top .ensures),
+      not-false (e .before .is-top .result) (e .if3 .left),
+    ) (c .within2 .ensures)
 
 pub holds-spec : {M : Type 1} → statement M
 holds-spec =

@@ -18,7 +18,14 @@ round-requires c κs = search needs
 
 returns : tie.Need-returns
 unfolding deviceFlat
-returns c = rw (c .before .before .before .if1 .taken) (rw (c .round .ensures, c .before .add .ensures, c .before .before .neg .ensures, c .before .before .before .before .mul .ensures))
+returns c =
+    rw (c .before .before .before .if1 .taken)
+    (rw (
+      c .round .ensures,
+      c .before .add .ensures,
+      c .before .before .neg .ensures,
+      c .before .before .before .before .mul .ensures,
+    ))
 
 add-requires-2 : tie.Need-add-requires-2
 add-requires-2 c κs = search needs
@@ -28,7 +35,9 @@ round-requires-2 c κs = search needs
 
 returns-2 : tie.Need-returns-2
 unfolding deviceFlat
-returns-2 c = rw (c .before .before .if1 .left) (rw (c .round2 .ensures, c .before .add2 .ensures, c .before .before .before .mul .ensures))
+returns-2 c =
+    rw (c .before .before .if1 .left)
+    (rw (c .round2 .ensures, c .before .add2 .ensures, c .before .before .before .mul .ensures))
 
 pub on-device-spec : {M : Type 1} → statement M
 on-device-spec =

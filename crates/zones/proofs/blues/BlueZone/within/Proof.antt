@@ -13,7 +13,11 @@ at-most-requires c κs = search needs
 
 returns : tie.Need-returns
 returns c =
-    rw (sym (c .before .before .sub .ensures), sym (c .before .at-most .ensures), not-true (c .before .at-most .result) (c .if1 .taken))
+    rw (
+      sym (c .before .before .sub .ensures),
+      sym (c .before .at-most .ensures),
+      not-true (c .before .at-most .result) (c .if1 .taken),
+    )
 
 add-requires : tie.Need-add-requires
 add-requires c κs = search needs
@@ -24,7 +28,12 @@ at-most-requires-2 c κs = search needs
 returns-2 : tie.Need-returns-2
 returns-2 c =
     let e = c .before .before in
-    simp (sym (e .before .before .sub .ensures), sym (e .before .at-most .ensures), not-false (e .before .at-most .result) (e .if1 .left), sym (c .before .add .ensures)) (c .at-most2 .ensures)
+    simp (
+      sym (e .before .before .sub .ensures),
+      sym (e .before .at-most .ensures),
+      not-false (e .before .at-most .result) (e .if1 .left),
+      sym (c .before .add .ensures),
+    ) (c .at-most2 .ensures)
 
 pub within-spec : {M : Type 1} → statement M
 within-spec =

@@ -1,5 +1,6 @@
--- `Blues::nearest` meets its contract. The loop's invariant: the search among the edges from `i` on, from the nearest so far, finds what the whole search finds.
--- The measure is what is left of the count, which is cut to the room for pairs. Assumes nothing.
+-- `Blues::nearest` meets its contract. The loop's invariant: the search among the edges from `i`
+-- on, from the nearest so far, finds what the whole search finds. The measure is what is left of
+-- the count, which is cut to the room for pairs. Assumes nothing.
 use mathlib.Core.Path.{_≡_, sym, _∙_}
 use Prim.Native.Nat.{_-_, _≤_}
 use native.Mathlib.Omega.{arith}
@@ -45,7 +46,8 @@ returns c =
     let at = c .before .before .before in
     let l = at .before .before in
     let test = sym (c .before .same .ensures) ∙ c .if1 .taken in
-    sym (search-found (l .before .args .bottom) _ _ (room l) _ _ _ _ (c .before .before .loop-test .taken) test) ∙ at .loop .inv
+    sym (search-found (l .before .args .bottom) _ _ (room l) _ _ _ _ (c .before .before .loop-test .taken) test) ∙
+    at .loop .inv
 
 edge-requires : tie.Need-edge-requires Inv-loop μ-loop
 edge-requires c κs = omega (arith, c .before .before .before .before .before .least .ensures)
@@ -65,7 +67,8 @@ loop-again c =
     let l = at .before .before in
     let test = sym (c .before .before .before .same .ensures) ∙ c .before .before .if1 .left in
     rw (c .with .ensures, c .before .edge .ensures)
-    (sym (search-goes (l .before .args .bottom) _ _ (room l) _ _ _ _ (c .before .before .before .before .loop-test .taken) test) ∙ at .loop .inv)
+    (sym (search-goes (l .before .args .bottom) _ _ (room l)
+    _ _ _ _ (c .before .before .before .before .loop-test .taken) test) ∙ at .loop .inv)
 
 returns-2 : tie.Need-returns-2 Inv-loop μ-loop
 returns-2 c =

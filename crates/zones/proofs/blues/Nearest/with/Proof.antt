@@ -11,7 +11,8 @@ use Rattle.zones.proofs.blues.Nearest.with.Tie as tie
 far : (c : tie.After-abs) → distance (c .before .before .args .flat) (c .before .before .args .edge) ≡ c .abs .result
 far c = sym (c .abs .ensures ∙ ap absF (c .before .sub .ensures))
 
-passed : (c : tie.Else1) → lessF (c .before .before .abs .result) (c .before .before .before .before .args .self .diff) ≡ true
+passed : (c : tie.Else1) →
+    lessF (c .before .before .abs .result) (c .before .before .before .before .args .self .diff) ≡ true
 passed c = sym (c .before .less .ensures) ∙ not-false _ (c .if1 .left)
 
 sub-requires : tie.Need-sub-requires
@@ -33,12 +34,22 @@ less-requires-2 c κs = search needs
 returns-2 : tie.Need-returns-2
 unfolding nearer
 returns-2 c =
-    rw (far (c .before .before .before .before), passed (c .before .before), sym (c .before .less2 .ensures) ∙ not-true _ (c .if2 .taken))
+    rw (
+      far (c .before .before .before .before),
+      passed (c .before .before),
+      sym (c .before .less2 .ensures) ∙
+          not-true _ (c .if2 .taken),
+    )
 
 returns-3 : tie.Need-returns-3
 unfolding nearer
 returns-3 c =
-    rw (far (c .before .before .before .before), passed (c .before .before), sym (c .before .less2 .ensures) ∙ not-false _ (c .if2 .left))
+    rw (
+      far (c .before .before .before .before),
+      passed (c .before .before),
+      sym (c .before .less2 .ensures) ∙
+          not-false _ (c .if2 .left),
+    )
 
 pub with-spec : {M : Type 1} → statement M
 with-spec =

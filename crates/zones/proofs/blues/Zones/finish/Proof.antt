@@ -1,5 +1,5 @@
--- `Zones::finish` meets its contract. The loop's invariant: the zones before `i` are changed, and the others are as they were.
--- The measure is what is left of the count. Assumes nothing.
+-- `Zones::finish` meets its contract. The loop's invariant: the zones before `i` are changed, and
+-- the others are as they were. The measure is what is left of the count. Assumes nothing.
 use mathlib.Core.Path.{_≡_, refl}
 use Prim.Native.Nat.{_-_, _≤_}
 use native.Mathlib.Omega.{arith}
@@ -45,8 +45,11 @@ loop-less c = search needs
 
 loop-again : tie.Need-loop-again Inv-loop μ-loop
 loop-again c =
-    let at = c .before .before .before .before in
-    (search needs, rw (c .on-device .ensures, c .before .by-family .ensures) (each-more _ _ _ noZone (at .loop .inv .1)))
+    let at = c .before .before .before .before in (
+      search needs,
+      rw (c .on-device .ensures, c .before .by-family .ensures)
+          (each-more _ _ _ noZone (at .loop .inv .1)),
+    )
 
 returns : tie.Need-returns Inv-loop μ-loop
 returns c =

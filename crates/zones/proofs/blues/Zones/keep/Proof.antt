@@ -30,7 +30,8 @@ returns-2 : tie.Need-returns-2
 unfolding keptIn
 returns-2 c =
     let e = c .before .before .before in
-    rw (tested (e .before) ∙ e .if1 .left, c .before .before .if2 .taken) (c .push .ensures ∙ rw (c .before .new .ensures, e .before .before .height .ensures))
+    rw (tested (e .before) ∙ e .if1 .left, c .before .before .if2 .taken)
+    (c .push .ensures ∙ rw (c .before .new .ensures, e .before .before .height .ensures))
 
 new-requires-2 : tie.Need-new-requires-2
 new-requires-2 c κs = search needs
@@ -42,7 +43,8 @@ returns-3 : tie.Need-returns-3
 unfolding keptIn
 returns-3 c =
     let e = c .before .before .before .before in
-    rw (tested (e .before) ∙ e .if1 .left, c .before .before .before .if2 .left) (c .push2 .ensures ∙ rw (c .before .new2 .ensures, e .before .before .height .ensures))
+    rw (tested (e .before) ∙ e .if1 .left, c .before .before .before .if2 .left)
+    (c .push2 .ensures ∙ rw (c .before .new2 .ensures, e .before .before .height .ensures))
 
 pub keep-spec : {M : Type 1} → statement M
 keep-spec =

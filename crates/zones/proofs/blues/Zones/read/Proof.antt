@@ -1,5 +1,6 @@
--- `Zones::read` meets its contract. The loop's invariant: what is still to be read, read into the zones so far, gives what all gives read into the first; and no more zones are kept than pairs read.
--- The measure is what is left of n. Assumes nothing.
+-- `Zones::read` meets its contract. The loop's invariant: what is still to be read, read into the
+-- zones so far, gives what all gives read into the first; and no more zones are kept than pairs
+-- read. The measure is what is left of n. Assumes nothing.
 use mathlib.Core.Path.{_≡_, refl, sym, _∙_}
 use Prim.Native.Nat.{_+_, _-_, _≤_}
 use native.Mathlib.Omega.{arith}
@@ -12,7 +13,8 @@ use Rattle.zones.proofs.blues.Zones.read.Tie as tie
 
 abbrev Inv-loop : tie.InvT-loop
 Inv-loop n other blues zones₀ i₀ zones i =
-    (readIn other zones₀ (take n (blues .pairs)) ≡ readIn other zones (drop i (take n (blues .pairs)))) × ((i ≤ n) × (zones .count ≤ zones₀ .count + i))
+    (readIn other zones₀ (take n (blues .pairs)) ≡ readIn other zones (drop i (take n (blues .pairs)))) ×
+    ((i ≤ n) × (zones .count ≤ zones₀ .count + i))
 
 abbrev μ-loop : tie.MeasureT-loop
 μ-loop n other blues zones₀ i₀ zones i = n - i
@@ -43,7 +45,11 @@ loop-again c =
     let at = c .before .before .before in
     let z = at .loop .zones in
     let one = kept-count (at .before .args .other) z (getD (at .before .args .t2 .pairs) (at .loop .i) noBlue) in
-    rw (c .keep .ensures) (at .loop .inv .0 ∙ read-more _ z _ _ (room (at .before)) (at .loop .i) (search needs), (search needs, omega arith))
+    rw (c .keep .ensures) (
+      at .loop .inv .0 ∙
+          read-more _ z _ _ (room (at .before)) (at .loop .i) (search needs),
+      (search needs, omega arith),
+    )
 
 returns : tie.Need-returns Inv-loop μ-loop
 returns c =

@@ -40,7 +40,10 @@ returns-2 : tie.Need-returns-2
 unfolding emBox
 returns-2 c =
     let s = c .before .before .before .before .before in
-    rw (group-one (s .args .self .«language_group») (search needs) (search needs), eq-eqb (s .args .self .blues .count) 0 (c .if2 .taken))
+    rw (
+      group-one (s .args .self .«language_group») (search needs) (search needs),
+      eq-eqb (s .args .self .blues .count) 0 (c .if2 .taken),
+    )
 
 returns-3 : tie.Need-returns-3
 unfolding emBox
@@ -62,7 +65,13 @@ unfolding emBox
 returns-4 c =
     let e = c .before .before .before .before in
     let s = begin (e .before) in
-    rw (group (e .before), some (e .before), eq-eqb (s .args .self .blues .count) 2 (search needs), sym (c .before .wholly-below .ensures), not-true (c .before .wholly-below .result) (c .if4 .taken))
+    rw (
+      group (e .before),
+      some (e .before),
+      eq-eqb (s .args .self .blues .count) 2 (search needs),
+      sym (c .before .wholly-below .ensures),
+      not-true (c .before .wholly-below .result) (c .if4 .taken),
+    )
 
 wholly-above-requires : tie.Need-wholly-above-requires
 wholly-above-requires c κs = search needs
@@ -73,7 +82,13 @@ returns-5 c =
     let e = c .before .before .before .before .before in
     let s = begin (e .before) in
     let below = c .before .before .wholly-below in
-    rw (group (e .before), some (e .before), eq-eqb (s .args .self .blues .count) 2 (search needs), sym (below .ensures), not-false (below .result) (c .before .if4 .left)) (c .wholly-above .ensures)
+    rw (
+      group (e .before),
+      some (e .before),
+      eq-eqb (s .args .self .blues .count) 2 (search needs),
+      sym (below .ensures),
+      not-false (below .result) (c .before .if4 .left),
+    ) (c .wholly-above .ensures)
 
 pub em-box-spec : {M : Type 1} → statement M
 em-box-spec =

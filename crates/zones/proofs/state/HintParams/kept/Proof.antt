@@ -1,4 +1,5 @@
--- `HintParams::kept` meets its contract: the blues are read into no zones, then at most five other blues. Assumes nothing.
+-- `HintParams::kept` meets its contract: the blues are read into no zones, then at most five other
+-- blues. Assumes nothing.
 use mathlib.Core.Path.{_≡_, ap, _∙_}
 use mathlib.Core.Bool.{true, false}
 use mathlib.Core.List.{List, _++_, map}
@@ -35,11 +36,15 @@ module _ (c : tie.After-read) where
   first = bluesZones (sift given)
 
   all : take (c .before .least .result) (begin .args .self .blues .pairs) ≡ given
-  all = ap (λ (n : ℕ). take n (begin .args .self .blues .pairs)) (c .before .least .ensures) ∙ take-least (begin .args .self .blues .count) 7 (begin .args .self .blues .pairs) (seven begin)
+  all =
+      ap (λ (n : ℕ). take n (begin .args .self .blues .pairs)) (c .before .least .ensures) ∙
+      take-least (begin .args .self .blues .count) 7 (begin .args .self .blues .pairs) (seven begin)
 
   read : c .read .result ≡ packed first
   read =
-      c .read .ensures ∙ ap (readIn false (c .before .before .none .result)) all ∙ ap (λ (q : Zones). readIn false q given) (c .before .before .none .ensures) ∙ read-blues given (omega (arith, few begin))
+      c .read .ensures ∙ ap (readIn false (c .before .before .none .result)) all ∙
+      ap (λ (q : Zones). readIn false q given) (c .before .before .none .ensures) ∙
+      read-blues given (omega (arith, few begin))
 
   short : length first ≤ 7
   short = omega (arith, blues-length given, few begin)
@@ -48,7 +53,8 @@ module _ (c : tie.After-read) where
   count = rw read short
 
   -- then other blues, of which there are at most five
-  then : (bs : List Blue) (q : Zones) → length bs ≤ 5 → q ≡ readIn true (c .read .result) bs → q ≡ packed (first ++ map (zoneOf true) (sift bs))
+  then : (bs : List Blue) (q : Zones) → length bs ≤ 5 → q ≡ readIn true (c .read .result) bs →
+      q ≡ packed (first ++ map (zoneOf true) (sift bs))
   then bs q h e = e ∙ ap (λ (z : Zones). readIn true z bs) read ∙ read-others first bs (omega (arith, short))
 
 none-requires : tie.Need-none-requires
@@ -68,7 +74,8 @@ unfolding kept
 returns c =
     let r = c .before .before .before in
     let o = begin r .args .self .«other_blues» in
-    then r (take 5 (listOf o)) (c .read2 .result) (omega (arith, length-take 5 (listOf o))) (rw (take-take 5 (o .count) (o .pairs) (search needs)) (c .read2 .ensures))
+    then r (take 5 (listOf o)) (c .read2 .result) (omega (arith, length-take 5 (listOf o)))
+    (rw (take-take 5 (o .count) (o .pairs) (search needs)) (c .read2 .ensures))
 
 read-requires-3 : tie.Need-read-requires-3
 read-requires-3 c κs = (search needs, omega (arith, count (c .before .before)))

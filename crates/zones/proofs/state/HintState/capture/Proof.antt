@@ -27,7 +27,13 @@ returns : tie.Need-returns
 unfolding captureOf
 returns c =
     let k = c .before .before .before in
-    rw (sym (k .before .before .before .holder .ensures), k .before .held .given .1, c .before .lift .ensures, c .lift2 .ensures, c .before .before .move-by .ensures)
+    rw (
+      sym (k .before .before .before .holder .ensures),
+      k .before .held .given .1,
+      c .before .lift .ensures,
+      c .lift2 .ensures,
+      c .before .before .move-by .ensures,
+    )
 
 returns-2 : tie.Need-returns-2
 unfolding captureOf

@@ -1,5 +1,6 @@
--- `HintState::holder` meets its contract. The loop's invariant: the first zone from `i` on that holds is the first of all.
--- The measure is what is left of the count, which is cut to the room for zones. Assumes nothing.
+-- `HintState::holder` meets its contract. The loop's invariant: the first zone from `i` on that
+-- holds is the first of all. The measure is what is left of the count, which is cut to the room for
+-- zones. Assumes nothing.
 use mathlib.Core.Path.{_≡_, sym, ap, _∙_}
 use mathlib.Core.Bool.{cond}
 use Prim.Native.Nat.{_+_, _-_, _≤_}
@@ -15,7 +16,8 @@ use Rattle.zones.proofs.state.HintState.holder.Statement.{statement}
 use Rattle.zones.proofs.state.HintState.holder.Tie as tie
 
 abbrev Inv-loop : tie.InvT-loop
-Inv-loop bottom top self count fuzz i₀ i = holderFrom self count bottom top i ≡ holderFrom self (self .«zone_count») bottom top 0
+Inv-loop bottom top self count fuzz i₀ i =
+    holderFrom self count bottom top i ≡ holderFrom self (self .«zone_count») bottom top 0
 
 abbrev μ-loop : tie.MeasureT-loop
 μ-loop bottom top self count fuzz i₀ i = count - i
@@ -33,7 +35,8 @@ loop-holds : tie.Need-loop-holds Inv-loop μ-loop
 loop-holds c =
     let l = c .before in
     let a = l .before .args in
-    ap (firstHolding (a .t1 .«blue_fuzz») (a .bottom) (a .top)) (rw (l .least .ensures) (take-least (a .t1 .«zone_count») 12 (a .t1 .zones) (twelve (l .before))))
+    ap (firstHolding (a .t1 .«blue_fuzz») (a .bottom) (a .top))
+    (rw (l .least .ensures) (take-least (a .t1 .«zone_count») 12 (a .t1 .zones) (twelve (l .before))))
 
 mul-zone : tie.Need-mul-zone Inv-loop μ-loop
 mul-zone c = search needs
@@ -49,12 +52,15 @@ tested : (c : tie.After-holds Inv-loop μ-loop) →
     let at = c .before .before .before in
     let l = at .before .before in
     let a = l .before .args in
-    holderFrom (a .t1) (a .t1 .«zone_count») (a .bottom) (a .top) 0 ≡ cond (c .holds .result) (By (getD (a .t1 .zones) (at .loop .i) noZone)) (holderFrom (a .t1) (l .least .result) (a .bottom) (a .top) (at .loop .i + 1))
+    holderFrom (a .t1) (a .t1 .«zone_count») (a .bottom) (a .top) 0 ≡
+    cond (c .holds .result) (By (getD (a .t1 .zones) (at .loop .i) noZone))
+    (holderFrom (a .t1) (l .least .result) (a .bottom) (a .top) (at .loop .i + 1))
 tested c =
     let at = c .before .before .before in
     let l = at .before .before in
     let a = l .before .args in
-    sym (at .loop .inv) ∙ holder-at (a .t1) (l .least .result) (room l) (a .bottom) (a .top) (at .loop .i) (c .before .before .loop-test .taken) ∙ rw (c .holds .ensures)
+    sym (at .loop .inv) ∙ holder-at (a .t1) (l .least .result) (room l) (a .bottom) (a .top) (at .loop .i)
+    (c .before .before .loop-test .taken) ∙ rw (c .holds .ensures)
 
 returns : tie.Need-returns Inv-loop μ-loop
 returns c = sym (tested (c .before) ∙ rw (c .if1 .taken))
@@ -73,7 +79,8 @@ returns-2 c =
     let at = c .before in
     let l = at .before .before in
     let a = l .before .args in
-    sym (holder-ends (a .t1) (l .least .result) (room l) (a .bottom) (a .top) (at .loop .i) (c .loop-test .left)) ∙ at .loop .inv
+    sym (holder-ends (a .t1) (l .least .result) (room l) (a .bottom) (a .top) (at .loop .i) (c .loop-test .left)) ∙
+    at .loop .inv
 
 pub holder-spec : {M : Type 1} → statement M
 holder-spec =

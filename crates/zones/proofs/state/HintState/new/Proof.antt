@@ -41,7 +41,10 @@ module _ (c : tie.After-boost-at) where
   begin = c .before .before .before .before .before .before .before .before
 
   most : c .before .clamped .result ≡ blueScaleOf (begin .args .params)
-  most = c .before .clamped .ensures ∙ ap (λ (q : Zones). clampedScale (begin .args .params .«blue_scale») (q .greatest)) (c .before .before .kept .ensures)
+  most =
+      c .before .clamped .ensures ∙
+      ap (λ (q : Zones). clampedScale (begin .args .params .«blue_scale») (q .greatest))
+      (c .before .before .kept .ensures)
 
   boost : c .boost-at .result ≡ boostOf (begin .args .scale) (blueScaleOf (begin .args .params))
   boost = c .boost-at .ensures ∙ ap (boostOf (begin .args .scale)) most
@@ -62,8 +65,12 @@ module _ (c : tie.After-finish) where
   done : c .finish .result ≡ eachIn (finished given at by) (packed (keptOf given))
   done =
       c .finish .ensures
-      ∙ ap (λ (x : Fixed). eachIn (λ z. deviceFlat at x (movedFlat (given .«family_other_blues») (given .«family_blues») (c .before .div .result) z)) (made .before .before .kept .result)) (boost made)
-      ∙ ap (λ (l : Fixed). eachIn (λ z. deviceFlat at by (movedFlat (given .«family_other_blues») (given .«family_blues») l z)) (made .before .before .kept .result)) (c .before .div .ensures)
+      ∙ ap (λ (x : Fixed). eachIn
+      (λ z. deviceFlat at x (movedFlat (given .«family_other_blues») (given .«family_blues»)
+      (c .before .div .result) z)) (made .before .before .kept .result)) (boost made)
+      ∙ ap (λ (l : Fixed). eachIn
+      (λ z. deviceFlat at by (movedFlat (given .«family_other_blues») (given .«family_blues») l z))
+      (made .before .before .kept .result)) (c .before .div .ensures)
       ∙ ap (eachIn (finished given at by)) (made .before .before .kept .ensures)
 
   list : c .finish .result .list ≡ filled (map (finished given at by) (keptOf given))
@@ -76,8 +83,10 @@ finish-requires : tie.Need-finish-requires
 finish-requires c κs =
     let b = c .before .before .before in
     let p = begin b .args .params in
-    let seven : length (p .blues .pairs) ≡ 7 = simp length-map at (begin b .good .0 .1 .1 .1 .1 .1 .1 .0 .1 .1 .0 .1 .0 .1) in
-    rw (b .before .before .kept .ensures) (kept-length (p .blues) (p .«other_blues») (omega (arith, length-take (p .blues .count) (p .blues .pairs))))
+    let seven : length (p .blues .pairs) ≡
+    7 = simp length-map at (begin b .good .0 .1 .1 .1 .1 .1 .1 .0 .1 .1 .0 .1 .0 .1) in
+    rw (b .before .before .kept .ensures)
+    (kept-length (p .blues) (p .«other_blues») (omega (arith, length-take (p .blues .count) (p .blues .pairs))))
 
 less-requires : tie.Need-less-requires
 less-requires c κs = search needs
@@ -87,7 +96,8 @@ unfolding stateOf
 returns-2 c =
     let f = c .before .before in
     let e = made f .before .before .before in
-    let suppress : c .less .result ≡ suppresses (at f) (blueScaleOf (given f)) = c .less .ensures ∙ ap (suppresses (at f)) (most (made f)) in
+    let suppress : c .less .result ≡ suppresses (at f) (blueScaleOf (given f)) = c .less .ensures ∙
+    ap (suppresses (at f)) (most (made f)) in
     rw (sym (e .before .em-box .ensures), e .if1 .left) (cc (most (made f), boost (made f), list f, count f, suppress))
 
 pub new-spec : {M : Type 1} → statement M
