@@ -13,6 +13,7 @@ use borrow.Author.Tests.{eqb-true, eqb-false, ltb-true, ltb-false}
 use Rattle.fixed.specs.declared.Fixed.{Fixed}
 use Rattle.stems.specs.declared.mask.HintMask.{HintMask}
 use Rattle.stems.specs.declared.edge.StemHint.{StemHint}
+use Rattle.stems.specs.declared.edge.Side.the-variants.{Bottom, Top}
 use Rattle.stems.specs.declared.edge.Hint.{Hint}
 use Rattle.stems.specs.Mask.{isActive, cleared}
 use Rattle.stems.specs.Edge.{noHint, topK, isValid, isTop}
@@ -252,8 +253,8 @@ locked-places st initial given i x p has =
     (places-fewer (Waits i (p .rest)) (Waits (suc i) (p .rest)) (p .map) has (λ k. ⊎-elim (λ h. inl (omega arith)) inr))
     st given
     (λ e. places-more (Waits i (p .rest)) (Waits (suc i) (cleared (p .rest) i)) (p .map) has i _ _
-    (sym (prepared-like st x i .0 .index) ∙ setup-index x i (st .scale) true)
-    (sym (prepared-like st x i .1 .index) ∙ setup-index x i (st .scale) false)
+    (sym (prepared-like st x i .0 .index) ∙ setup-index x i (st .scale) Bottom)
+    (sym (prepared-like st x i .1 .index) ∙ setup-index x i (st .scale) Top)
     (made-prepared st x i) (inl (le-refl i))
     (⊎-elim (λ h. omega arith) (λ a. true≢false (sym a ∙ clear-off (p .rest) i)))
     (λ k d. ⊎-elim (λ h. inl (omega arith)) (λ a. inr (sym (clear-keeps (p .rest) i k (λ w. d (sym w))) ∙ a)))
@@ -275,7 +276,7 @@ free-places n st initial i x p l has =
     (places-fewer (Awaits n i (p .rest)) (Awaits n (suc i) (p .rest)) (p .map) has waits)
     st
     (λ e. places-more (Awaits n i (p .rest)) (Awaits n (suc i) (p .rest)) (p .map) has i _ _
-    (setup-index x i (st .scale) true) (setup-index x i (st .scale) false) (made-setup x i (st .scale))
+    (setup-index x i (st .scale) Bottom) (setup-index x i (st .scale) Top) (made-setup x i (st .scale))
     (inr (le-refl i, e)) (⊎-elim (λ h. omega arith) (λ h. omega arith)) (λ k d. waits k) initial true)
 
 module _ (st : HintState) (mask : HintMask) (initial : HintMap) (ss : Stems) where

@@ -9,6 +9,8 @@ use Rattle.fixed.specs.declared.Fixed.{Fixed}
 use Rattle.fixed.specs.Fixed.{ZERO}
 use Rattle.stems.specs.declared.edge.StemHint.{StemHint}
 use Rattle.stems.specs.declared.edge.Kind.the-variants.{GhostBottom}
+use Rattle.stems.specs.declared.edge.Side.{Side}
+use Rattle.stems.specs.declared.edge.Side.the-variants.{Bottom, Top}
 use Rattle.stems.specs.declared.edge.Hint.{Hint}
 use Rattle.stems.specs.Mask.{isActive, cleared}
 use Rattle.stems.specs.Edge.{noHint, setupOf}
@@ -35,24 +37,24 @@ like-lifted e by =
     record { kind = sym (k .kind); index = sym (k .index); level = sym (k .height) }
 
 module _ (st : HintState) (x : StemHint) (i : ℕ) where
-  abbrev own : Bool → Hint
+  abbrev own : Side → Hint
   own b = setupOf x i (st .scale) b
 
   abbrev Likes : Captured → Type 0
-  Likes c = Like (own true) (c .bottom) × Like (own false) (c .top)
+  Likes c = Like (own Bottom) (c .bottom) × Like (own Top) (c .top)
 
   -- locked or captured, a stem's edges differ on the device only
   pub prepared-like : Likes (preparedOf st x i)
   unfolding preparedOf captureOf
   prepared-like =
-      go (own true .locked || own false .locked)
-      (held (firstHolding (st .«blue_fuzz») (own true) (own false) (take (st .«zone_count») (st .zones))))
+      go (own Bottom .locked || own Top .locked)
+      (held (firstHolding (st .«blue_fuzz») (own Bottom) (own Top) (take (st .«zone_count») (st .zones))))
     where
-      held : (h : Held) → Likes (capturedBy h st (own true) (own false))
+      held : (h : Held) → Likes (capturedBy h st (own Bottom) (own Top))
       held Free = (like-refl _, like-refl _)
       held (By z) = (like-lifted _ _, like-lifted _ _)
 
-      go : (t : Bool) → Likes (captureOf st (own true) (own false)) → Likes (preparedBy t st (own true) (own false))
+      go : (t : Bool) → Likes (captureOf st (own Bottom) (own Top)) → Likes (preparedBy t st (own Bottom) (own Top))
       go true l = (like-refl _, like-refl _)
       go false l = l
 
@@ -99,7 +101,7 @@ module _ (initial : HintMap) (p : Placed) (i : ℕ) (x : StemHint) (P : Placed �
   pub free-cases : (st : HintState) →
       (isActive (p .rest) i ≡ true →
       P (record {
-        map = insertIn (p .map) (chosen (setupOf x i (st .scale) true) (setupOf x i (st .scale) false))
+        map = insertIn (p .map) (chosen (setupOf x i (st .scale) Bottom) (setupOf x i (st .scale) Top))
             initial true;
         rest = p .rest;
       })) →

@@ -4,6 +4,7 @@ use mathlib.Core.List.{List, [], _∷_}
 use Prim.Native.Nat.{ℕ, suc}
 use lib.ListN.{take}
 use Rattle.stems.specs.declared.edge.StemHint.{StemHint}
+use Rattle.stems.specs.declared.edge.Side.the-variants.{Bottom, Top}
 use Rattle.stems.specs.declared.edge.Hint.{Hint}
 use Rattle.stems.specs.Mask.{isActive, cleared}
 use Rattle.stems.specs.Edge.{setupOf}
@@ -26,8 +27,8 @@ preparedBy false st b t = captureOf st b t
 -- a stem's edges, and whether they are locked or captured
 unfoldable pub preparedOf : HintState → StemHint → ℕ → Captured
 preparedOf st stem i =
-    preparedBy (setupOf stem i (st .scale) true .locked || setupOf stem i (st .scale) false .locked) st
-    (setupOf stem i (st .scale) true) (setupOf stem i (st .scale) false)
+    preparedBy (setupOf stem i (st .scale) Bottom .locked || setupOf stem i (st .scale) Top .locked) st
+    (setupOf stem i (st .scale) Bottom) (setupOf stem i (st .scale) Top)
 
 abbrev pub putBy : Bool → HintMap → Bool → Placed → ℕ → Captured → Placed
 putBy true initial given p i e =
@@ -46,7 +47,7 @@ lockedTurn st initial given p i stem = lockedBy (isActive (p .rest) i) st initia
 abbrev pub freeBy : Bool → HintState → HintMap → Placed → ℕ → StemHint → Placed
 freeBy true st initial p i stem =
     record {
-      map = insertIn (p .map) (chosen (setupOf stem i (st .scale) true) (setupOf stem i (st .scale) false))
+      map = insertIn (p .map) (chosen (setupOf stem i (st .scale) Bottom) (setupOf stem i (st .scale) Top))
           initial true;
       rest = p .rest;
     }

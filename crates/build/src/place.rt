@@ -5,6 +5,7 @@ use hintmap::HintMap;
 use stems::Hint;
 use stems::HintMask;
 use stems::MAX_HINTS;
+use stems::Side;
 use stems::StemHint;
 use stems::Stems;
 use zones::Captured;
@@ -31,8 +32,8 @@ fn declared(count: usize) -> usize
 fn prepared(state: HintState, stem: StemHint, index: u8) -> Captured
     ensures { λ r. ⌜ r ≡ preparedOf state stem index ⌝ }
 {
-    let bottom = Hint::setup(stem, index, state.scale, true);
-    let top = Hint::setup(stem, index, state.scale, false);
+    let bottom = Hint::setup(stem, index, state.scale, Side::Bottom);
+    let top = Hint::setup(stem, index, state.scale, Side::Top);
     if bottom.is_locked() {
         return Captured {
             captured: true,
@@ -93,8 +94,8 @@ pub(crate) fn place_free(p: Placed, state: HintState, stems: Stems, initial: Hin
             continue;
         }
         let stem = stems.list[i];
-        let bottom = Hint::setup(stem, i as u8, state.scale, true);
-        let top = Hint::setup(stem, i as u8, state.scale, false);
+        let bottom = Hint::setup(stem, i as u8, state.scale, Side::Bottom);
+        let top = Hint::setup(stem, i as u8, state.scale, Side::Top);
         map = map.insert(Edges::choose(bottom, top), initial, true);
     }
     Placed { map, rest }

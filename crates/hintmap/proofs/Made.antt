@@ -6,6 +6,7 @@ use Prim.Native.Nat.{ℕ}
 use Rattle.fixed.specs.declared.Fixed.{Fixed}
 use Rattle.stems.specs.declared.edge.StemHint.{StemHint}
 use Rattle.stems.specs.declared.edge.Kind.the-variants.{GhostBottom, GhostTop}
+use Rattle.stems.specs.declared.edge.Side.the-variants.{Bottom, Top}
 use Rattle.stems.specs.declared.edge.Hint.{Hint}
 use Rattle.stems.specs.declared.edge.Shape.{Shape}
 use Rattle.stems.specs.declared.edge.Shape.the-variants.{BottomGhost, TopGhost, Pair}
@@ -27,8 +28,8 @@ unfolding chosen
 by-valid b t x y p q g = rw (p, q) g
 
 -- two edges of the kinds that a shape has
-by-shape : (h : Shape) (i : ℕ) (s : Fixed) (b t : Hint) → b .kind ≡ edgeOf h true i s .kind →
-    t .kind ≡ edgeOf h false i s .kind → b .index ≡ t .index → Made (chosen b t)
+by-shape : (h : Shape) (i : ℕ) (s : Fixed) (b t : Hint) → b .kind ≡ edgeOf h Bottom i s .kind →
+    t .kind ≡ edgeOf h Top i s .kind → b .index ≡ t .index → Made (chosen b t)
 unfolding edgeOf Made
 by-shape (BottomGhost h) i s b t p q o =
     by-valid b t true false (ap validK p) (ap validK q) (record { single = ap pairK p })
@@ -39,11 +40,11 @@ by-shape (Pair l h) i s b t p q o =
 
 module _ (st : StemHint) (i : ℕ) (s : Fixed) where
   -- two edges that differ from those of a stem on the device only are made
-  pub made-like : (b t : Hint) → Like (setupOf st i s true) b → Like (setupOf st i s false) t → Made (chosen b t)
+  pub made-like : (b t : Hint) → Like (setupOf st i s Bottom) b → Like (setupOf st i s Top) t → Made (chosen b t)
   made-like b t p q =
-      by-shape (shapeOf st) i s b t (sym (p .kind) ∙ setup-kind st i s true) (sym (q .kind) ∙ setup-kind st i s false)
-      (sym (p .index) ∙ setup-index st i s true ∙ sym (setup-index st i s false) ∙ q .index)
+      by-shape (shapeOf st) i s b t (sym (p .kind) ∙ setup-kind st i s Bottom) (sym (q .kind) ∙ setup-kind st i s Top)
+      (sym (p .index) ∙ setup-index st i s Bottom ∙ sym (setup-index st i s Top) ∙ q .index)
 
   -- so are those of the stem
-  pub made-setup : Made (chosen (setupOf st i s true) (setupOf st i s false))
+  pub made-setup : Made (chosen (setupOf st i s Bottom) (setupOf st i s Top))
   made-setup = made-like _ _ (like-refl _) (like-refl _)

@@ -5,6 +5,8 @@ use mathlib.Core.Bool.{Bool, true, false, _&&_}
 use Prim.Native.Nat.{ℕ}
 use Rattle.fixed.specs.declared.Fixed.{Fixed}
 use Rattle.stems.specs.declared.edge.StemHint.{StemHint}
+use Rattle.stems.specs.declared.edge.Side.{Side}
+use Rattle.stems.specs.declared.edge.Side.the-variants.{Bottom, Top}
 use Rattle.stems.specs.declared.edge.Hint.{Hint}
 use Rattle.stems.specs.declared.edge.Shape.{Shape}
 use Rattle.stems.specs.declared.edge.Shape.the-variants.{BottomGhost, TopGhost, Pair}
@@ -17,36 +19,36 @@ kept false st e = (refl, refl)
 
 -- an edge before its stem is used, by shape and side
 module _ (i : ℕ) (s : Fixed) where
-  numbered : (h : Shape) (b : Bool) → edgeOf h b i s .index ≡ i
+  numbered : (h : Shape) (b : Side) → edgeOf h b i s .index ≡ i
   unfolding edgeOf
-  numbered (BottomGhost h) true = refl
-  numbered (BottomGhost h) false = refl
-  numbered (TopGhost h) true = refl
-  numbered (TopGhost h) false = refl
-  numbered (Pair l h) true = refl
-  numbered (Pair l h) false = refl
+  numbered (BottomGhost h) Bottom = refl
+  numbered (BottomGhost h) Top = refl
+  numbered (TopGhost h) Bottom = refl
+  numbered (TopGhost h) Top = refl
+  numbered (Pair l h) Bottom = refl
+  numbered (Pair l h) Top = refl
 
-  one : (h : Shape) → isValid (edgeOf h true i s) ≡ false → isValid (edgeOf h false i s) ≡ true
+  one : (h : Shape) → isValid (edgeOf h Bottom i s) ≡ false → isValid (edgeOf h Top i s) ≡ true
   unfolding edgeOf
   one (BottomGhost h) e = sym e
   one (TopGhost h) e = refl
   one (Pair l h) e = refl
 
 module _ (st : StemHint) (i : ℕ) (s : Fixed) where
-  drawn : (b : Bool) →
+  drawn : (b : Side) →
       let e = edgeOf (shapeOf st) b i s in
       (setupOf st i s b .kind ≡ e .kind) × (setupOf st i s b .index ≡ e .index)
   unfolding setupOf
   drawn b = kept (st .«is_used» && isValid (edgeOf (shapeOf st) b i s)) st (edgeOf (shapeOf st) b i s)
 
   -- an edge is of the kind that its stem's shape gives it
-  pub setup-kind : (b : Bool) → setupOf st i s b .kind ≡ edgeOf (shapeOf st) b i s .kind
+  pub setup-kind : (b : Side) → setupOf st i s b .kind ≡ edgeOf (shapeOf st) b i s .kind
   setup-kind b = drawn b .0
 
   -- an edge has its stem's number
-  pub setup-index : (b : Bool) → setupOf st i s b .index ≡ i
+  pub setup-index : (b : Side) → setupOf st i s b .index ≡ i
   setup-index b = drawn b .1 ∙ numbered i s (shapeOf st) b
 
   -- a stem without its bottom edge has its top edge
-  pub setup-one : isValid (setupOf st i s true) ≡ false → isValid (setupOf st i s false) ≡ true
-  setup-one e = ap validK (setup-kind false) ∙ one i s (shapeOf st) (sym (ap validK (setup-kind true)) ∙ e)
+  pub setup-one : isValid (setupOf st i s Bottom) ≡ false → isValid (setupOf st i s Top) ≡ true
+  setup-one e = ap validK (setup-kind Top) ∙ one i s (shapeOf st) (sym (ap validK (setup-kind Bottom)) ∙ e)

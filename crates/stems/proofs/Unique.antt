@@ -9,6 +9,7 @@ use contract.Lifetimes.{Lfts}
 use denote.Triple.Clauses.{AtExit}
 use Rattle.fixed.specs.declared.Fixed.{Fixed}
 use Rattle.stems.specs.declared.edge.StemHint.{StemHint}
+use Rattle.stems.specs.declared.edge.Side.{Side}
 use Rattle.stems.specs.declared.edge.Hint.{Hint}
 use Rattle.stems.specs.declared.mask.HintMask.{HintMask}
 use Rattle.stems.proofs.edge.Hint.none.Reads as none-reads
@@ -34,7 +35,7 @@ module _ (κs : Lfts 0) (r r′ : Hint) where
   pub none-unique : none-reads.Post κs tt r tt → none-reads.Post κs tt r′ tt → r ≡ r′
   none-unique p q = p ∙ sym q
 
-  pub setup-unique : (st : StemHint) (i : ℕ) (s : Fixed) (b : Bool) →
+  pub setup-unique : (st : StemHint) (i : ℕ) (s : Fixed) (b : Side) →
       setup-reads.Post κs (st, (i, (s, (b, tt)))) r (st, (i, (s, (b, tt)))) →
       setup-reads.Post κs (st, (i, (s, (b, tt)))) r′ (st, (i, (s, (b, tt)))) → r ≡ r′
   setup-unique st i s b p q = p ∙ sym q

@@ -7,6 +7,8 @@ use Rattle.fixed.specs.Fixed.{whole, ZERO, subF, mulF, lessF, sameF}
 use Rattle.stems.specs.declared.edge.StemHint.{StemHint}
 use Rattle.stems.specs.declared.edge.Kind.{Kind}
 use Rattle.stems.specs.declared.edge.Kind.the-variants.{Absent, GhostBottom, GhostTop, PairBottom, PairTop}
+use Rattle.stems.specs.declared.edge.Side.{Side}
+use Rattle.stems.specs.declared.edge.Side.the-variants.{Bottom, Top}
 use Rattle.stems.specs.declared.edge.Hint.{Hint}
 use Rattle.stems.specs.declared.edge.Shape.{Shape}
 use Rattle.stems.specs.declared.edge.Shape.the-variants.{BottomGhost, TopGhost, Pair}
@@ -129,14 +131,14 @@ shapeOf s =
     (cond (sameF (width s) (whole (negℤ (pos 20)))) (TopGhost (s .min))
     (cond (lessF (width s) ZERO) (Pair (s .max) (s .min)) (Pair (s .min) (s .max))))
 
--- the bottom edge (true) or the top edge of a shape; a ghost's other edge is absent
-unfoldable pub edgeOf : Shape → Bool → ℕ → Fixed → Hint
-edgeOf (BottomGhost h) true i s = hintAt GhostBottom h i s
-edgeOf (BottomGhost h) false i s = hintAt Absent ZERO i s
-edgeOf (TopGhost h) true i s = hintAt Absent ZERO i s
-edgeOf (TopGhost h) false i s = hintAt GhostTop h i s
-edgeOf (Pair b t) true i s = hintAt PairBottom b i s
-edgeOf (Pair b t) false i s = hintAt PairTop t i s
+-- the bottom edge or the top edge of a shape; a ghost's other edge is absent
+unfoldable pub edgeOf : Shape → Side → ℕ → Fixed → Hint
+edgeOf (BottomGhost h) Bottom i s = hintAt GhostBottom h i s
+edgeOf (BottomGhost h) Top i s = hintAt Absent ZERO i s
+edgeOf (TopGhost h) Bottom i s = hintAt Absent ZERO i s
+edgeOf (TopGhost h) Top i s = hintAt GhostTop h i s
+edgeOf (Pair b t) Bottom i s = hintAt PairBottom b i s
+edgeOf (Pair b t) Top i s = hintAt PairTop t i s
 
 -- the height that a used stem has saved for an edge
 abbrev pub savedFor : StemHint → Hint → Fixed
@@ -147,6 +149,6 @@ abbrev pub usedBy : Bool → StemHint → Hint → Hint
 usedBy true s e = lockedAt e (savedFor s e)
 usedBy false s e = e
 
--- stem number i's bottom edge (true) or top edge
-unfoldable pub setupOf : StemHint → ℕ → Fixed → Bool → Hint
+-- stem number i's bottom edge or top edge
+unfoldable pub setupOf : StemHint → ℕ → Fixed → Side → Hint
 setupOf st i s b = usedBy (st .«is_used» && isValid (edgeOf (shapeOf st) b i s)) st (edgeOf (shapeOf st) b i s)

@@ -34,6 +34,12 @@ pub enum Kind {
     PairTop,
 }
 
+// Which of a stem's two edges.
+pub enum Side {
+    Bottom,
+    Top,
+}
+
 pub struct Hint {
     pub kind: Kind,
     pub locked: bool,
@@ -81,28 +87,22 @@ impl StemHint {
 impl Shape {
     // From `Hint::setup`: the bottom edge or the top edge, whether or not the stem is used. A ghost
     // has only its own.
-    fn edge(self, bottom: bool, index: u8, scale: Fixed) -> Hint
-        ensures { λ r. ⌜ r ≡ edgeOf self bottom index scale ⌝ }
+    fn edge(self, side: Side, index: u8, scale: Fixed) -> Hint
+        ensures { λ r. ⌜ r ≡ edgeOf self side index scale ⌝ }
     {
         match self {
-            Shape::BottomGhost(height) => {
-                if bottom {
-                    return Hint::at(Kind::GhostBottom, height, index, scale);
-                }
-                Hint::at(Kind::Absent, Fixed::ZERO, index, scale)
-            }
-            Shape::TopGhost(height) => {
-                if bottom {
-                    return Hint::at(Kind::Absent, Fixed::ZERO, index, scale);
-                }
-                Hint::at(Kind::GhostTop, height, index, scale)
-            }
-            Shape::Pair(low, high) => {
-                if bottom {
-                    return Hint::at(Kind::PairBottom, low, index, scale);
-                }
-                Hint::at(Kind::PairTop, high, index, scale)
-            }
+            Shape::BottomGhost(height) => match side {
+                Side::Bottom => Hint::at(Kind::GhostBottom, height, index, scale),
+                Side::Top => Hint::at(Kind::Absent, Fixed::ZERO, index, scale),
+            },
+            Shape::TopGhost(height) => match side {
+                Side::Bottom => Hint::at(Kind::Absent, Fixed::ZERO, index, scale),
+                Side::Top => Hint::at(Kind::GhostTop, height, index, scale),
+            },
+            Shape::Pair(low, high) => match side {
+                Side::Bottom => Hint::at(Kind::PairBottom, low, index, scale),
+                Side::Top => Hint::at(Kind::PairTop, high, index, scale),
+            },
         }
     }
 }
@@ -140,10 +140,10 @@ impl Hint {
 
     // Ports `Hint::setup`: a stem's bottom or top edge, locked at its saved height once the stem is
     // used.
-    pub fn setup(stem: StemHint, index: u8, scale: Fixed, bottom: bool) -> Hint
-        ensures { λ r. ⌜ r ≡ setupOf stem index scale bottom ⌝ }
+    pub fn setup(stem: StemHint, index: u8, scale: Fixed, side: Side) -> Hint
+        ensures { λ r. ⌜ r ≡ setupOf stem index scale side ⌝ }
     {
-        let edge = stem.shape().edge(bottom, index, scale);
+        let edge = stem.shape().edge(side, index, scale);
         if !stem.is_used {
             return edge;
         }

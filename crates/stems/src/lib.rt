@@ -7,6 +7,7 @@ pub use edge::Kind;
 pub use edge::LAST_HINT;
 pub use edge::MAX_HINTS;
 pub use edge::Shape;
+pub use edge::Side;
 pub use edge::StemHint;
 pub use edge::Stems;
 pub use mask::HINT_MASK_SIZE;

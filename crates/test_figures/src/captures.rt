@@ -3,6 +3,7 @@ use crate::tables;
 use crate::tables::Rows;
 use fixed::Fixed;
 use stems::Hint;
+use stems::Side;
 use stems::StemHint;
 use zones::HintState;
 ghost use Prim.Native.Nat.{_≤_};
@@ -42,8 +43,8 @@ fn capture_agrees(state: HintState, row: &[i32], at: usize) -> bool
         ds_min: Fixed::ZERO,
         ds_max: Fixed::ZERO,
     };
-    let bottom = Hint::setup(stem, 0, state.scale, true);
-    let top = Hint::setup(stem, 0, state.scale, false);
+    let bottom = Hint::setup(stem, 0, state.scale, Side::Bottom);
+    let top = Hint::setup(stem, 0, state.scale, Side::Top);
     let after = state.capture(bottom, top);
     if after.captured != test_tables::flag(row, at + 2) {
         return false;

@@ -2,6 +2,7 @@
 use crate::tables;
 use crate::tables::Rows;
 use stems::Hint;
+use stems::Side;
 use stems::StemHint;
 ghost use Prim.Native.Nat.{_≤_};
 
@@ -21,10 +22,10 @@ pub(crate) fn edges_agree(row: &[i32]) -> bool {
     };
     let index = test_tables::count(row, 6, 95) as u8;
     let scale = test_tables::fixed(row, 7);
-    if !edge_agrees(Hint::setup(stem, index, scale, true), row, 8) {
+    if !edge_agrees(Hint::setup(stem, index, scale, Side::Bottom), row, 8) {
         return false;
     }
-    edge_agrees(Hint::setup(stem, index, scale, false), row, 12)
+    edge_agrees(Hint::setup(stem, index, scale, Side::Top), row, 12)
 }
 
 // The edge is of the row's stem, and is as the row says from `at` on.

@@ -6,6 +6,7 @@ use fixed::Fixed;
 use hintmap::Edges;
 use hintmap::HintMap;
 use stems::Hint;
+use stems::Side;
 use stems::StemHint;
 ghost use Prim.Native.Nat.{_+_, _≤_};
 
@@ -85,7 +86,7 @@ pub(crate) fn with_stem(
     if 96 < initial.len {
         return map;
     }
-    let bottom = Hint::setup(stem, index, map.scale, true);
-    let top = Hint::setup(stem, index, map.scale, false);
+    let bottom = Hint::setup(stem, index, map.scale, Side::Bottom);
+    let top = Hint::setup(stem, index, map.scale, Side::Top);
     map.insert(Edges::choose(bottom, top), initial, given)
 }

@@ -3,6 +3,7 @@ use mathlib.Core.Path.{_≡_, refl, sym, _∙_}
 use mathlib.Core.Bool.{Bool, true, false, _||_}
 use Prim.Native.Nat.{ℕ}
 use Rattle.stems.specs.declared.edge.StemHint.{StemHint}
+use Rattle.stems.specs.declared.edge.Side.the-variants.{Bottom, Top}
 use Rattle.stems.specs.declared.edge.Hint.{Hint}
 use Rattle.stems.specs.Edge.{setupOf}
 use Rattle.zones.specs.declared.state.HintState.{HintState}
@@ -12,8 +13,8 @@ use Rattle.build.proofs.place.prepared.Statement.{statement}
 use Rattle.build.proofs.place.prepared.Tie as tie
 
 -- what is asked for, by the edges and whether they are locked
-module _ (st : HintState) (stem : StemHint) (i : ℕ) (b t : Hint) (p : b ≡ setupOf stem i (st .scale) true)
-    (q : t ≡ setupOf stem i (st .scale) false) where
+module _ (st : HintState) (stem : StemHint) (i : ℕ) (b t : Hint) (p : b ≡ setupOf stem i (st .scale) Bottom)
+    (q : t ≡ setupOf stem i (st .scale) Top) where
   prepared-by : (u v : Bool) → b .locked ≡ u → t .locked ≡ v → preparedOf st stem i ≡ preparedBy (u || v) st b t
   unfolding preparedOf
   prepared-by u v x y = rw (sym p, sym q, x, y)

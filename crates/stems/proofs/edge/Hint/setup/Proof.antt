@@ -6,6 +6,7 @@ use mathlib.Core.Path.{_≡_, refl, sym, _∙_}
 use mathlib.Core.Bool.{Bool, true, false, cond, _&&_}
 use Prim.Native.Nat.{ℕ}
 use Rattle.fixed.specs.declared.Fixed.{Fixed}
+use Rattle.stems.specs.declared.edge.Side.{Side}
 use Rattle.stems.specs.declared.edge.Hint.{Hint}
 use Rattle.stems.specs.declared.edge.Shape.{Shape}
 use Rattle.stems.specs.declared.edge.StemHint.{StemHint}
@@ -14,7 +15,7 @@ use Rattle.stems.proofs.edge.Hint.setup.Statement.{statement}
 use Rattle.stems.proofs.edge.Hint.setup.Tie as tie
 
 -- what is asked for, by the edge and the tests
-module _ (st : StemHint) (i : ℕ) (s : Fixed) (b : Bool) (h : Shape) (e : Hint) (p : h ≡ shapeOf st)
+module _ (st : StemHint) (i : ℕ) (s : Fixed) (b : Side) (h : Shape) (e : Hint) (p : h ≡ shapeOf st)
     (q : e ≡ edgeOf h b i s) where
   by-use : (u v : Bool) → st .«is_used» ≡ u → isValid e ≡ v → setupOf st i s b ≡ usedBy (u && v) st e
   unfolding setupOf
@@ -53,7 +54,7 @@ start c = c .before .before .before .before .before .before .before
 
 -- what is asked for, where the stem is used and the edge is valid
 used : (c : tie.After-is-top) (t : Bool) → c .is-top .result ≡ t →
-    setupOf ((start c) .args .stem) ((start c) .args .index) ((start c) .args .scale) ((start c) .args .bottom) ≡
+    setupOf ((start c) .args .stem) ((start c) .args .index) ((start c) .args .scale) ((start c) .args .side) ≡
     lockedAt (c .before .before .before .before .before .edge .result)
     (cond t ((start c) .args .stem .«ds_max») ((start c) .args .stem .«ds_min»))
 used c t x =
