@@ -14,7 +14,9 @@ from . import scripts_refused
 from .form import packed
 from .marked import WHOLE_RECORDS, WHOLE_RESULT
 from .scripts_form import AMPLE, answered, byte, length, model_case, word, worked_case
-from .scripts_good import BOX, EMPTY, FULL, GOOD, LETTER, LETTER_KINDS, MASKED, PATHS, WHOLE, padded_bytes
+from .scripts_good import (
+    BOX, EMPTY, FULL, GOOD, LETTER, LETTER_KINDS, MASKED, PATHS, READINGS, WHOLE, padded_bytes,
+)
 
 SEED = 1013
 
@@ -45,7 +47,7 @@ def rooms():
 
 def glyphs():
     """Each script with room, and at other scales, counts and groups."""
-    for script in GOOD:
+    for script in [*GOOD, *READINGS]:
         yield script, []
     for script in [LETTER, MASKED, PATHS, FULL, BOX]:
         for scale in [1, 700, 4567, HIGH]:

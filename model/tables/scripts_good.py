@@ -1,7 +1,7 @@
 """Scripts without a fault, made by hand. Others are made from them by changes."""
 
 from ..calls import CLEAR, CLOSE, COUNTER_MASK, CURVE, FINISH, HINT_MASK, LINE, MOVE, STEM
-from ..numbers import ONE, bits
+from ..numbers import LOW, ONE, bits
 from ..script import HEADER_WORDS, OPERANDS, SCRIPT_VERSION, words_of
 from . import fonts
 from .fonts import PLAIN, font, param_words
@@ -72,3 +72,33 @@ FAULTY = script_of(
     fonts.FAMILY, 2100, (HINT_MASK, 0, 1), (LINE, 1, 1), (COUNTER_MASK, 1, 2), (CLOSE,), masks=[1, 2, 3, 4, 5]
 )
 GOOD = [WHOLE, EMPTY, LETTER, MASKED, PATHS, FULL, BOX, *LAST.values(), FAULTY]
+# Scripts that tell a rule from a reading of it to which all other rows are blind; an outside reader of
+# docs/RULES.md found them. In turn: a distance of 0 ends the search (Z10), the earlier of two at one distance stays
+# (Z10), boost is at most 0x7FFF (Z13), the sums of the room up and of the room down wrap (M17, M18), and a stem that
+# is ignored gets no number (S1).
+READINGS = [
+    [
+        1, 1049, 8, 18, 26, 10, 36, 0, 2597, 458752, 65536, 0, 2, 0, 3, 0, -1310720, -655360, 6553600, 7536640, 0, 0,
+        6553600, 6553600, -2140930048, 0, 1, 2621440, 6881280, 5, 0, 6553600, 6, 0, 7536640, 9,
+    ],
+    [
+        1, 1049, 8, 18, 26, 10, 36, 0, 6000, 458752, 65536, 0, 2, 0, 3, 0, -1310720, -655360, 0, 983040, 0, 0,
+        -2082114, -1426754, 2082114, 2737474, 1, -3932160, 589824, 5, 0, 0, 6, 0, 983040, 9,
+    ],
+    [
+        1, 700, 8, 18, 26, 10, 36, 0, 10000, 458752, 65536, 0, 2, 0, 3, 0, -1310720, -655360, 0, 983040, 0, 0, 0, 0,
+        LOW, 0, 1, -3932160, 0, 5, 0, 0, 6, 0, 983040, 9,
+    ],
+    [
+        1, 65536, 8, 8, 16, 19, 35, 0, 2597, 458752, 65536, 0, 0, 0, 0, 0, 1, 2147277226, 2147448089, 1, 2147455889,
+        2147481027, 5, 0, 2147277226, 5, 0, 2147448089, 5, 0, 2147455889, 5, 0, 2147481027, 9,
+    ],
+    [
+        1, 262144, 8, 8, 16, 19, 35, 0, 2597, 458752, 65536, 0, 0, 0, 0, 0, 1, -536931007, 536873033, 1, 536877466,
+        2147390588, 5, 0, -536931007, 5, 0, 536873033, 5, 0, 536877466, 5, 0, 2147390588, 9,
+    ],
+    [
+        1, 2048, 8, 8, 16, 22, 38, 1, 2597, 458752, 65536, 0, 0, 0, 0, 0, 1, 1048576, 5242880, 5, 0, 0, 1, 6553600,
+        7864320, 2, 0, 1, 1, 13107200, 17321504, 5, 0, 13107200, 6, 0, 17321504, 9, 192,
+    ],
+]
