@@ -9,11 +9,23 @@ mod sample;
 mod scripts;
 mod sides;
 
+/// What the tool ends with: all agrees; something differs; the words given are wrong; a part could not be had or started.
+const AGREED: i32 = 0;
+const DIFFERS: i32 = 1;
+const USAGE: i32 = 2;
+const CANNOT: i32 = 3;
+
 /// The seed of all scripts, unless COMPARE_SEED gives another.
 const SEED: u64 = 100_057_371_820_517;
 
 fn seed() -> u64 {
     std::env::var("COMPARE_SEED").ok().and_then(|text| text.parse().ok()).unwrap_or(SEED)
+}
+
+/// Ends the tool, since nothing can be said about agreement.
+fn cannot(why: &str) -> ! {
+    eprintln!("compare: {why}");
+    std::process::exit(CANNOT)
 }
 
 fn usage() -> ! {
@@ -28,7 +40,8 @@ fn usage() -> ! {
     eprintln!("       compare reduce FILE              the smallest script near the one in FILE on which model and Rust differ");
     eprintln!("       compare sample COUNT SIZE FILE   chooses SIZE cases among COUNT and writes them with their answers");
     eprintln!("       compare coverage COUNT           which places of the Rust file are reached");
-    std::process::exit(2)
+    eprintln!("COMMAND may be several words. Status 0: all agrees; 1: something differs; 3: a part cannot be had or started.");
+    std::process::exit(USAGE)
 }
 
 fn main() {
@@ -49,5 +62,5 @@ fn main() {
         ["coverage", number] => coverage::print(seed(), count(number)),
         _ => usage(),
     };
-    std::process::exit(if agreed { 0 } else { 1 });
+    std::process::exit(if agreed { AGREED } else { DIFFERS });
 }

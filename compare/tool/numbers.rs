@@ -2,8 +2,7 @@
 
 #[cfg(not(fetched))]
 pub fn compare(_millions: u64) -> bool {
-    println!("The packages are not there, so the numbers rest on 01 alone.");
-    true
+    crate::cannot("numbers: the packages are not there, so the numbers rest on 01 alone")
 }
 
 #[cfg(fetched)]

@@ -136,8 +136,7 @@ pub fn write(seed: u64, count: u64, size: usize, file: &str) -> bool {
     }
     let bytes: Vec<u8> = words.iter().flat_map(|word| word.to_le_bytes()).collect();
     if let Err(error) = std::fs::write(file, &bytes) {
-        eprintln!("sample: {file}: {error}");
-        return false;
+        crate::cannot(&format!("sample: {file}: {error}"));
     }
     let of = |kind: fn(&Shown) -> bool| covered.iter().filter(|each| kind(each)).count();
     println!("{} cases in {} bytes: {needed} for what {count} scripts show, the rest to fill each family up.", chosen.len(), bytes.len());
