@@ -105,7 +105,7 @@ fn each_answer(seed: u64, count: u64, command: &str, rest: &[&str], mut take: im
     let status = child.wait().expect("a command that was started ends");
     if let Some(number) = stopped {
         must_have_run(command, status);
-        println!("The other side stopped at case {number}, with {status}.");
+        println!("The other side gave no answer to case {number}; it ended with {status}.");
     }
     stopped.is_none()
 }
