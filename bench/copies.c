@@ -1,5 +1,5 @@
-/* Runs the cases of a batch through the static library. It stands before memcpy, memset and memmove, and counts the library's
-   calls and bytes by the place of the call. */
+/* Runs the cases of a batch through the static library. It stands before memcpy, memset and memmove, and
+   counts the library's calls and bytes by the place of the call. */
 #include <stddef.h>
 #include <stdint.h>
 #include <stdio.h>
@@ -69,6 +69,7 @@ int main(void) {
         scripts++;
     for (size_t at = 0; at < places; at++)
         if (counts[at].calls)
-            printf("%016lx %.2f %.0f\n", (unsigned long)counts[at].place, counts[at].calls / scripts, counts[at].bytes / scripts);
+            printf("%016lx %.2f %.0f\n", (unsigned long)counts[at].place, counts[at].calls / scripts,
+                   counts[at].bytes / scripts);
     return 0;
 }

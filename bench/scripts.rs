@@ -1,5 +1,5 @@
-//! Writes the scripts of one shape (0 to 2) to standard output as cases of the batch protocol, and how many points they have
-//! on average to standard error.
+//! Writes the scripts of one shape (0 to 2) to standard output as cases of the batch protocol, and
+//! their points on average to standard error.
 
 #[allow(dead_code)]
 mod shapes;
