@@ -1,7 +1,6 @@
 //! Runs the same scripts through the static library and through the Rust, in turn, and prints the ratio of their times.
 //!     driver [ROUNDS]        the ratios
 //!     driver only SHAPE N    N turns of one shape (0 to 2) through the static library alone, for a profiler
-//!     driver copies SHAPE    where the static library copies from, where the driver is linked with copies.c
 
 mod shapes;
 
@@ -11,7 +10,13 @@ use std::hint::black_box;
 use std::time::Instant;
 
 extern "C" {
-    fn spoonglacier_run(script: *const u8, script_bytes: usize, out: *mut i32, out_words: usize, place: *mut usize) -> u32;
+    fn spoonglacier_run(
+        script: *const u8,
+        script_bytes: usize,
+        out: *mut i32,
+        out_words: usize,
+        place: *mut usize,
+    ) -> u32;
 }
 
 fn ours(script: &[u8], out: &mut [i32]) -> bool {
@@ -144,35 +149,11 @@ fn only(shape: usize, turns: usize) {
     }
 }
 
-#[cfg(copies)]
-extern "C" {
-    fn copies_start();
-    fn copies_print(scripts: usize, points: usize);
-}
-
-#[cfg(copies)]
-fn copies(shape: usize) {
-    let shape = &shapes()[shape];
-    let bytes: Vec<Vec<u8>> = shape.scripts.iter().map(|script| script.bytes()).collect();
-    let mut out = vec![0; 65536];
-    unsafe { copies_start() };
-    for script in &bytes {
-        ours(script, &mut out);
-    }
-    unsafe { copies_print(bytes.len(), shape.scripts.iter().map(points).sum()) };
-}
-
-#[cfg(not(copies))]
-fn copies(_: usize) {
-    println!("this driver is not linked with copies.c");
-}
-
 fn main() {
     let words: Vec<String> = std::env::args().skip(1).collect();
     let number = |at: usize| words.get(at).and_then(|word| word.parse::<usize>().ok());
     match words.first().map(String::as_str) {
         Some("only") => only(number(1).unwrap_or(0), number(2).unwrap_or(1)),
-        Some("copies") => copies(number(1).unwrap_or(0)),
         _ => ratios(number(0).unwrap_or(400)),
     }
 }

@@ -118,7 +118,8 @@ impl Outline {
     }
 }
 
-/// Contours with so many points in all; one stroke in `curves` is a curve. Before some strokes `before` may put in a command.
+/// Contours with so many points in all; one stroke in `curves` is a curve. Before some strokes
+/// `before` may put in a command.
 fn contours(
     n: &mut Numbers,
     script: &mut Script,
@@ -172,7 +173,8 @@ fn long(n: &mut Numbers) -> Script {
     script
 }
 
-/// An ideograph: half of them in a face with an em box, half with two narrow zones. A hint mask comes every few strokes.
+/// An ideograph: half of them in a face with an em box, half with two narrow zones. A hint mask
+/// comes every few strokes.
 fn masked(n: &mut Numbers) -> Script {
     let mut script = Script {
         scale: (n.between(12, 40) * UNIT as i64 / 1000) as i32,

@@ -1,5 +1,5 @@
-/* Speaks the batch protocol for the static library. Guard words stand after the output, and a copy of the script is kept,
-   so that a write outside the lent words is seen. */
+/* Speaks the batch protocol for the static library. Guard words stand after the output, and a copy
+   of the script is kept, so that a write outside the lent words is seen. */
 #include <stdint.h>
 #include <stdio.h>
 #include <stdlib.h>

@@ -152,8 +152,12 @@ fn font_stem(n: &mut Numbers, font: &Font) -> (i32, i32) {
 
 /// Heights that are worth a point: stems' edges, their neighbourhood, and places between.
 fn heights_of(script: &Script) -> Vec<i32> {
-    let mut heights: Vec<i32> =
-        script.commands.iter().filter(|command| command.kind == 1).flat_map(|command| command.operands.clone()).collect();
+    let mut heights: Vec<i32> = script
+        .commands
+        .iter()
+        .filter(|command| command.kind == 1)
+        .flat_map(|command| command.operands.clone())
+        .collect();
     heights.push(0);
     heights
 }
@@ -449,7 +453,9 @@ fn em_box(n: &mut Numbers) -> Script {
     let font = font(n);
     let mut script = blank(n, &font);
     script.group = if n.one_in(10) { n.pick(&[0, 2]) } else { 1 };
-    let near = |n: &mut Numbers, base: i32| base * UNIT + if n.one_in(2) { n.between(-2, 2) as i32 } else { n.between(-40, 40) as i32 * UNIT };
+    let near = |n: &mut Numbers, base: i32| {
+        base * UNIT + if n.one_in(2) { n.between(-2, 2) as i32 } else { n.between(-40, 40) as i32 * UNIT }
+    };
     match n.index(4) {
         0 | 1 => {}
         2 => {

@@ -73,9 +73,7 @@ impl Map {
                 }
             }
         }
-        if see(insert_edge_before, place > 0)
-            && see(insert_below_before, first.device < self.edges[place - 1].device)
-        {
+        if see(insert_edge_before, place > 0) && see(insert_below_before, first.device < self.edges[place - 1].device) {
             return false;
         }
         if let Some(there) = after {
@@ -197,7 +195,14 @@ impl Map {
     }
 
     /// Inserts the active stems that are used or that a zone captures, and says which stems are handled.
-    fn insert_held(&mut self, stems: &[Stem], mask: Mask, zones: &Zones, scale: i32, initial: Option<&Map>) -> Vec<bool> {
+    fn insert_held(
+        &mut self,
+        stems: &[Stem],
+        mask: Mask,
+        zones: &Zones,
+        scale: i32,
+        initial: Option<&Map>,
+    ) -> Vec<bool> {
         let mut handled = vec![false; stems.len()];
         for (number, stem) in stems.iter().enumerate() {
             if !see(mask_selects_stem, mask.selects(number)) {

@@ -116,9 +116,8 @@ impl Zones {
                 let tops = given.family_other_blues.iter().map(|pair| pair.1);
                 let best = nearest_height(own, tops, limit);
                 let first = given.family_blues.first().map(|pair| (pair.1, abs(sub(own, pair.1))));
-                let closer = first.filter(|&(_, distance)| {
-                    distance < limit && best.is_none_or(|(_, least)| distance < least)
-                });
+                let closer =
+                    first.filter(|&(_, distance)| distance < limit && best.is_none_or(|(_, least)| distance < least));
                 see(first_family_blue_would_move, closer.is_some());
                 if amended {
                     closer.or(best)

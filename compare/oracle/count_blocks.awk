@@ -4,7 +4,8 @@
 /\{$/ {
     line = $0
     sub(/^[ ]+/, "", line)
-    if (line ~ /^(use|struct|impl|pub\(crate\) struct|mod|match) / || line ~ /(= match .*|Self|Hint) \{$/ && line !~ /^(pub )?fn /)
+    if (line ~ /^(use|struct|impl|pub\(crate\) struct|mod|match) / ||
+        line ~ /(= match .*|Self|Hint) \{$/ && line !~ /^(pub )?fn /)
         next
     if (line ~ /^impl/ || !inside && line !~ /fn / && line !~ /^\)/)
         next

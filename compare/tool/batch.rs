@@ -6,7 +6,7 @@ use crate::sides::{self, Answer, Side};
 use generate::parts::join;
 use generate::{batch, case, Case};
 use std::io::{BufReader, BufWriter, Read, Write};
-use std::process::{Child, Command, Stdio};
+use std::process::{Child, Command, ExitStatus, Stdio};
 use std::time::Instant;
 
 fn words_of(bytes: &[u8]) -> impl Iterator<Item = i32> + '_ {
@@ -14,16 +14,27 @@ fn words_of(bytes: &[u8]) -> impl Iterator<Item = i32> + '_ {
 }
 
 fn start(command: &str, rest: &[&str]) -> Child {
-    Command::new(command).args(rest).stdin(Stdio::piped()).stdout(Stdio::piped()).spawn().unwrap_or_else(|error| {
-        eprintln!("compare: {command}: {error}");
-        std::process::exit(2)
-    })
+    let started = Command::new(command).args(rest).stdin(Stdio::piped()).stdout(Stdio::piped()).spawn();
+    started.unwrap_or_else(|error| crate::cannot(&format!("{command}: {error}")))
 }
 
-/// Keeps the counts, and shows the first cases on which the other side differs from the model.
+/// Ends the tool where a command says by its status that it cannot run here, as tools/x86 does.
+fn must_have_run(command: &str, status: ExitStatus) {
+    if status.code() == Some(crate::CANNOT) {
+        crate::cannot(&format!("{command} cannot run here"));
+    }
+}
+
+/// How many cases with a difference are shown.
+const SHOWN: u64 = 5;
+
+/// Keeps the counts, and shows the first cases on which the other side differs from the model, or
+/// the model from the Rust
+/// otherwise than is known.
 struct Judge {
     tally: Tally,
     oracle: Side,
+    judged: u64,
     differ: u64,
     began: Instant,
 }
@@ -33,33 +44,47 @@ impl Judge {
         Judge {
             tally: Tally::new(vec!["other/model", "other/Rust", "model/Rust"]),
             oracle: sides::oracle(),
+            judged: 0,
             differ: 0,
             began: Instant::now(),
         }
     }
 
-    fn judge(&mut self, case: &Case, number: u64, other: &Answer, ours: &Answer, theirs: &Answer) {
-        let differ = [other != ours, other != theirs, ours != theirs];
+    /// Judges an answer beside those of the model and the Rust, which `answer` gives.
+    fn judge(&mut self, case: &Case, number: u64, other: &Answer, answer: impl Fn(Side) -> Answer) {
+        let (ours, theirs) = (answer(sides::MODEL), answer(self.oracle));
+        let differ = [*other != ours, *other != theirs, ours != theirs];
         self.tally.note(case.family, other.number, &differ);
-        if differ[0] {
+        self.judged += 1;
+        let unknown = differ[2] && answer(sides::AMENDED) != theirs;
+        if differ[0] || unknown {
             self.differ += 1;
-            if self.differ <= 5 {
-                println!("Case {number} differs from the model:");
+            if self.differ <= SHOWN {
+                println!(
+                    "Case {number} differs{}:",
+                    if unknown { ", and the model from the Rust" } else { " from the model" }
+                );
                 println!("  other     answers {} at {}: {}", other.number, other.place, join(&other.words));
                 reduce::show(case, &[sides::MODEL, self.oracle]);
             }
         }
     }
 
-    fn end(&self, count: u64) -> bool {
+    fn end(&self) -> bool {
         self.tally.print();
-        println!("{count} scripts in {:.1} s.", self.began.elapsed().as_secs_f64());
+        println!("{} scripts in {:.1} s.", self.judged, self.began.elapsed().as_secs_f64());
         self.differ == 0
     }
 }
 
 /// Sends the cases to a command that speaks the batch protocol and hands its answers on until told to stop.
-fn each_answer(seed: u64, count: u64, command: &str, rest: &[&str], mut take: impl FnMut(u64, Case, Answer) -> bool) -> bool {
+fn each_answer(
+    seed: u64,
+    count: u64,
+    command: &str,
+    rest: &[&str],
+    mut take: impl FnMut(u64, Case, Answer) -> bool,
+) -> bool {
     let mut child = start(command, rest);
     let to = child.stdin.take().unwrap();
     let mut from = BufReader::new(child.stdout.take().unwrap());
@@ -71,13 +96,12 @@ fn each_answer(seed: u64, count: u64, command: &str, rest: &[&str], mut take: im
             }
         }
     });
-    let mut whole = true;
+    let mut stopped = None;
     for number in 0..count {
         let case = case(seed, number);
         let mut bytes = vec![0; 8 + 4 * case.room];
         if from.read_exact(&mut bytes).is_err() {
-            println!("The other side stopped at case {number}.");
-            whole = false;
+            stopped = Some(number);
             break;
         }
         let mut words = words_of(&bytes);
@@ -88,19 +112,22 @@ fn each_answer(seed: u64, count: u64, command: &str, rest: &[&str], mut take: im
     }
     drop(from);
     let _ = writer.join();
-    let _ = child.wait();
-    whole
+    let status = child.wait().expect("a command that was started ends");
+    if let Some(number) = stopped {
+        must_have_run(command, status);
+        println!("The other side gave no answer to case {number}; it ended with {status}.");
+    }
+    stopped.is_none()
 }
 
 /// Compares such a command with the model and the Rust.
 pub fn against(seed: u64, count: u64, command: &str, rest: &[&str]) -> bool {
     let mut judge = Judge::new();
     let whole = each_answer(seed, count, command, rest, |number, case, other| {
-        let (ours, theirs) = (sides::MODEL.answer(&case), judge.oracle.answer(&case));
-        judge.judge(&case, number, &other, &ours, &theirs);
+        judge.judge(&case, number, &other, |side| side.answer(&case));
         true
     });
-    judge.end(count) && whole
+    judge.end() && whole
 }
 
 /// Says on which case such a command first differs from the Rust or stops, change request 4 apart.
@@ -118,19 +145,24 @@ pub fn detect(seed: u64, count: u64, command: &str, rest: &[&str]) -> bool {
     found || !whole
 }
 
-/// Compares a program that reads one script and lends 16,384 words with the model and the Rust.
+/// Stands for the number and the place where a program gave none or did not end well.
+const NONE: i32 = -1;
+
+/// Compares a program that reads one script and lends the program's room with the model and the Rust.
 pub fn program(seed: u64, count: u64, command: &str, rest: &[&str]) -> bool {
     let mut judge = Judge::new();
     for number in 0..count {
-        let case = Case { room: 16_384, ..case(seed, number) };
+        let case = Case { room: sides::PROGRAM_ROOM, ..case(seed, number) };
         let mut child = start(command, rest);
         // A program that has read enough of an overlong script may stop reading.
         let _ = child.stdin.take().unwrap().write_all(&case.script);
         let output = child.wait_with_output().expect("the program's output can be read");
-        let mut words = words_of(&output.stdout);
+        must_have_run(command, output.status);
+        let sound = output.status.success() && output.stdout.len() % 4 == 0;
+        let mut words = words_of(if sound { &output.stdout } else { &[] });
         let other = Answer {
-            number: words.next().unwrap_or(-1),
-            place: words.next().unwrap_or(-1),
+            number: words.next().unwrap_or(NONE),
+            place: words.next().unwrap_or(NONE),
             words: words.collect(),
         };
         let written = |side: Side| {
@@ -139,8 +171,7 @@ pub fn program(seed: u64, count: u64, command: &str, rest: &[&str]) -> bool {
             answer.words.truncate(length);
             answer
         };
-        let (ours, theirs) = (written(sides::MODEL), written(judge.oracle));
-        judge.judge(&case, number, &other, &ours, &theirs);
+        judge.judge(&case, number, &other, written);
     }
-    judge.end(count)
+    judge.end()
 }

@@ -20,8 +20,11 @@ pub fn print(seed: u64, count: u64) -> bool {
     let missed: Vec<usize> = places.iter().copied().filter(|&line| oracle_counted::reached::count(line) == 0).collect();
     println!("{count} scripts enter {} of {} blocks of the Rust file.", places.len() - missed.len(), places.len());
     println!("Never entered, by the line where the block opens: {missed:?}");
-    let mut rare: Vec<(u64, usize)> =
-        places.iter().map(|&line| (oracle_counted::reached::count(line), line)).filter(|&(times, _)| times > 0).collect();
+    let mut rare: Vec<(u64, usize)> = places
+        .iter()
+        .map(|&line| (oracle_counted::reached::count(line), line))
+        .filter(|&(times, _)| times > 0)
+        .collect();
     rare.sort();
     println!("Entered least often (times, line): {:?}", &rare[..rare.len().min(8)]);
     let all: Vec<usize> = (0..branch::COUNT).filter(|&bit| branch::can_be(bit)).collect();

@@ -41,7 +41,8 @@ pub fn check() -> bool {
         for height in [0, 16, 48, 80] {
             script.put(5, &[0, height * 65_536]);
         }
-        let heights: Vec<i32> = side.answer(&case_of(script, 40)).words[4..].iter().skip(2).step_by(4).take(4).copied().collect();
+        let heights: Vec<i32> =
+            side.answer(&case_of(script, 40)).words[4..].iter().skip(2).step_by(4).take(4).copied().collect();
         must("stem 16 to 80", heights == [32_768, 65_536, 131_072, 196_608]);
     }
     let given = Parameters { blue_scale: 2597, ..Parameters::default() };

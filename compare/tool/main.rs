@@ -9,6 +9,13 @@ mod sample;
 mod scripts;
 mod sides;
 
+/// What the tool ends with: all agrees; something differs; the words given are wrong; a part could
+/// not be had or started.
+const AGREED: i32 = 0;
+const DIFFERS: i32 = 1;
+const USAGE: i32 = 2;
+const CANNOT: i32 = 3;
+
 /// The seed of all scripts, unless COMPARE_SEED gives another.
 const SEED: u64 = 100_057_371_820_517;
 
@@ -16,19 +23,32 @@ fn seed() -> u64 {
     std::env::var("COMPARE_SEED").ok().and_then(|text| text.parse().ok()).unwrap_or(SEED)
 }
 
+/// Ends the tool, since nothing can be said about agreement.
+fn cannot(why: &str) -> ! {
+    eprintln!("compare: {why}");
+    std::process::exit(CANNOT)
+}
+
 fn usage() -> ! {
     eprintln!("usage: compare figures                  the figures that 01 gives");
     eprintln!("       compare numbers MILLIONS");
     eprintln!("       compare scripts COUNT            the model with the Rust");
-    eprintln!("       compare against COUNT COMMAND    a command that speaks the batch protocol, with the model and the Rust");
+    eprintln!(
+        "       compare against COUNT COMMAND    a command that speaks the batch protocol, with the model and the Rust"
+    );
     eprintln!("       compare program COUNT COMMAND    a program that reads one script, with the model and the Rust");
     eprintln!("       compare detect COUNT COMMAND     the first case on which such a command differs from the Rust");
     eprintln!("       compare once SIDE                reads one script and answers like the program");
-    eprintln!("       compare answer SIDE              speaks the batch protocol; SIDE is model, amended, stand-in or fetched");
-    eprintln!("       compare reduce FILE              the smallest script near the one in FILE on which model and Rust differ");
-    eprintln!("       compare sample COUNT SIZE FILE   chooses SIZE cases among COUNT and writes them with their answers");
+    eprintln!("       compare answer SIDE              speaks the protocol; SIDE: model, amended, stand-in or fetched");
+    eprintln!("       compare reduce FILE              the smallest script near FILE on which model and Rust differ");
+    eprintln!(
+        "       compare sample COUNT SIZE FILE   chooses SIZE cases among COUNT and writes them with their answers"
+    );
     eprintln!("       compare coverage COUNT           which places of the Rust file are reached");
-    std::process::exit(2)
+    eprintln!(
+        "COMMAND may be several words. Status 0: all agrees; 1: something differs; 3: a part cannot be had or started."
+    );
+    std::process::exit(USAGE)
 }
 
 fn main() {
@@ -49,5 +69,5 @@ fn main() {
         ["coverage", number] => coverage::print(seed(), count(number)),
         _ => usage(),
     };
-    std::process::exit(if agreed { 0 } else { 1 });
+    std::process::exit(if agreed { AGREED } else { DIFFERS });
 }

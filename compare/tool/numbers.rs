@@ -2,8 +2,7 @@
 
 #[cfg(not(fetched))]
 pub fn compare(_millions: u64) -> bool {
-    println!("The packages are not there, so the numbers rest on 01 alone.");
-    true
+    crate::cannot("numbers: the packages are not there, so the numbers rest on 01 alone")
 }
 
 #[cfg(fetched)]
@@ -116,7 +115,12 @@ mod with_packages {
             table.three(a, b, (c & i32::MAX).max(1));
         }
         for whole in -32768..=32767 {
-            table.note("from a whole number", [whole, 0, 0], Fixed::from_i32(whole).to_bits(), whole.wrapping_mul(65536));
+            table.note(
+                "from a whole number",
+                [whole, 0, 0],
+                Fixed::from_i32(whole).to_bits(),
+                whole.wrapping_mul(65536),
+            );
         }
         table.note("constant 0.6", [0; 3], Fixed::from_f64(0.6).to_bits(), 39322);
         println!("{:<22} {:>12} {:>8}", "operation", "given", "differ");

@@ -22,7 +22,8 @@ fn simpler_values(value: i32, heights: bool) -> Vec<i32> {
     if heights && step == 1 {
         list.extend([100, 10, 1].map(|tens| value / (tens * 65536) * (tens * 65536)));
     }
-    let parts = [1, units.signum(), units / 100 * 100, units / 10 * 10, units / 2, units - units / 4, units - units.signum()];
+    let parts =
+        [1, units.signum(), units / 100 * 100, units / 10 * 10, units / 2, units - units / 4, units - units.signum()];
     list.extend(parts.map(|other| other * step));
     list.retain(|&other| (other.unsigned_abs(), other < 0) < (value.unsigned_abs(), value < 0));
     list.dedup();
@@ -201,17 +202,15 @@ pub fn show(case: &Case, sides: &[Side]) {
 
 /// Reads a script as bytes, or as words in text, and reduces it.
 pub fn file(name: &str) -> bool {
-    let bytes = std::fs::read(name).unwrap_or_else(|error| {
-        eprintln!("reduce: {name}: {error}");
-        std::process::exit(2)
-    });
+    let bytes = std::fs::read(name).unwrap_or_else(|error| crate::cannot(&format!("reduce: {name}: {error}")));
     let text = String::from_utf8(bytes.clone()).unwrap_or_default();
-    let words: Option<Vec<i32>> = text.split_whitespace().filter(|word| *word != "|").map(|word| word.parse().ok()).collect();
+    let words: Option<Vec<i32>> =
+        text.split_whitespace().filter(|word| *word != "|").map(|word| word.parse().ok()).collect();
     let script = match words {
         Some(words) if !words.is_empty() => words.iter().flat_map(|word| word.to_le_bytes()).collect(),
         _ => bytes,
     };
-    let case = Case { family: 0, script, room: 16_384, fill: 0 };
+    let case = Case { family: 0, script, room: sides::PROGRAM_ROOM, fill: 0 };
     let (left, right) = (sides::MODEL, sides::oracle());
     if left.answer(&case) == right.answer(&case) {
         println!("Model and Rust agree on it.");

@@ -8,7 +8,8 @@ use std::collections::{BTreeMap, BTreeSet};
 
 /// How many of the shortest cases are kept for each thing that a case can show.
 const KEPT: usize = 3;
-/// The most bytes of a script, and the most words of a room, of a case in the sample; the program `replay` has place for no less.
+/// The most bytes of a script, and the most words of a room, of a case in the sample; the program
+/// `test_scripts` has place for no less.
 const SCRIPT: usize = 16_384;
 const ROOM: usize = 4_096;
 /// The most bytes of a script and its room together among the cases that fill the sample up.
@@ -41,11 +42,23 @@ fn ending(case: &Case, answer: &Answer) -> i32 {
         // Whether the result takes the whole room.
         0 => (4 + answer.words[3] == case.room as i32) as i32,
         // Whether the kind is known, and if so which one is cut off.
-        4 => if (1..=9).contains(&kind()) { kind() } else { 0 },
+        4 => {
+            if (1..=9).contains(&kind()) {
+                kind()
+            } else {
+                0
+            }
+        }
         // Which mask, and whether its start or its length is negative.
         5 => 100 * kind() + 10 * (operand(1) < 0) as i32 + (operand(2) < 0) as i32,
         // Which command, or that there is no room for the header.
-        6 => if case.room < 4 { 0 } else { kind() },
+        6 => {
+            if case.room < 4 {
+                0
+            } else {
+                kind()
+            }
+        }
         _ => answer.place,
     }
 }
@@ -94,7 +107,8 @@ fn fill_up(chosen: &mut BTreeSet<u64>, seed: u64, count: u64, share: usize) {
 
 /// A case with its answer, as words.
 fn written(case: &Case, mark: i32, answer: &Answer) -> Vec<i32> {
-    let mut words = vec![case.script.len() as i32, case.room as i32, case.fill as i32, mark, answer.number, answer.place];
+    let mut words =
+        vec![case.script.len() as i32, case.room as i32, case.fill as i32, mark, answer.number, answer.place];
     for four in case.script.chunks(4) {
         let mut bytes = [0; 4];
         bytes[..four.len()].copy_from_slice(four);
@@ -136,11 +150,14 @@ pub fn write(seed: u64, count: u64, size: usize, file: &str) -> bool {
     }
     let bytes: Vec<u8> = words.iter().flat_map(|word| word.to_le_bytes()).collect();
     if let Err(error) = std::fs::write(file, &bytes) {
-        eprintln!("sample: {file}: {error}");
-        return false;
+        crate::cannot(&format!("sample: {file}: {error}"));
     }
     let of = |kind: fn(&Shown) -> bool| covered.iter().filter(|each| kind(each)).count();
-    println!("{} cases in {} bytes: {needed} for what {count} scripts show, the rest to fill each family up.", chosen.len(), bytes.len());
+    println!(
+        "{} cases in {} bytes: {needed} for what {count} scripts show, the rest to fill each family up.",
+        chosen.len(),
+        bytes.len()
+    );
     println!(
         "They show {} branches of the model, {} blocks of the Rust file and {} endings; the Rust differs on {marked}.",
         of(|each| matches!(each, Shown::Branch(_))),

@@ -80,7 +80,10 @@ pub fn compare(seed: u64, count: u64) -> bool {
     let began = Instant::now();
     let oracle = sides::oracle();
     let both = sides::FETCHED.is_some();
-    println!("The Rust runs over {}.", if both { "the fetched packages, and again over stand-ins" } else { "stand-ins" });
+    println!(
+        "The Rust runs over {}.",
+        if both { "the fetched packages, and again over stand-ins" } else { "stand-ins" }
+    );
     let mut columns = vec!["model/Rust", "amended/Rust"];
     if both {
         columns.push("packages/stand-ins");
@@ -111,7 +114,9 @@ pub fn compare(seed: u64, count: u64) -> bool {
     tally.print();
     println!("{count} scripts in {:.1} s.", began.elapsed().as_secs_f64());
     if !known.is_empty() {
-        println!("\nKnown: the paper as printed and the Rust differ, and change request 4 removes it. Smallest script:");
+        println!(
+            "\nKnown: the paper as printed and the Rust differ, and change request 4 removes it. Smallest script:"
+        );
         show_smallest(&known, sides::MODEL, oracle);
     }
     if !unknown.is_empty() {

@@ -3,6 +3,9 @@
 use generate::Case;
 use std::io::{Read, Write};
 
+/// The words that the program `hint` lends to a script.
+pub const PROGRAM_ROOM: usize = 16_384;
+
 #[derive(Copy, Clone)]
 pub struct Side {
     pub name: &'static str,
@@ -52,13 +55,13 @@ impl Side {
     }
 }
 
-/// Reads one script, lends 16,384 words and writes number, place and, if all is well, the result.
+/// Reads one script, lends the program's room and writes number, place and, if all is well, the result.
 pub fn once(side: Side) -> bool {
     let mut script = Vec::new();
     if std::io::stdin().read_to_end(&mut script).is_err() {
         return false;
     }
-    let mut words = vec![0; 16_384];
+    let mut words = vec![0; PROGRAM_ROOM];
     let (number, place) = (side.run)(&script, &mut words);
     let length = if number == 0 { 4 + words[3] as usize } else { 0 };
     let answer = [number, place].into_iter().chain(words[..length].iter().copied());
