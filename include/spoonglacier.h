@@ -25,13 +25,14 @@ extern "C" {
 /* What spoonglacier_run answers. */
 enum {
     SPOONGLACIER_OK = 0,          /* the result is in the output; place 0 */
-    SPOONGLACIER_BAD_SCRIPT = 1,  /* length, header, padding or pairs; place: the word at fault */
+    SPOONGLACIER_BAD_SCRIPT = 1,  /* length, header, padding or pairs; place: the word at fault, 0
+                                     for a wrong length */
     SPOONGLACIER_BAD_SCALE = 2,   /* a scale below 1; place 1 */
     SPOONGLACIER_BAD_BLUES = 3,   /* a count outside 0 to 7; place: the first such word, 12 to 15 */
     SPOONGLACIER_BAD_COMMAND = 4, /* no such kind, or operands cut off; place: its kind word */
     SPOONGLACIER_BAD_MASK = 5,    /* not within the mask bytes; place: its kind word */
     SPOONGLACIER_NO_ROOM = 6      /* records do not fit; place: the kind word of their command, or
-                                     the figure in word 4 if the output has under 4 words */
+                                     the value of word 4 if the output has under 4 words */
 };
 
 /* Commands of a script: the kind word, and the operand words behind it. Points are x and y. */
@@ -91,8 +92,8 @@ enum {
            words, the records; the words behind them stand as they were. On the numbers 1 to 5 no
            word is changed. On NO_ROOM the records of the commands before the one that did not fit
            stand from word 4 on, and every other word is as it was.
-   place   where the place is left, a word of the script counted from 0. It must not be null, nor
-           lie in the script or in `out`.
+   place   where the place is left, which counts words of the script from 0; there may be no word
+           there. It must not be null, nor lie in the script or in `out`.
 
    A length of 0 goes with any pointer to script or out, null included; a longer one needs a pointer
    to as many bytes or words. `out` and `place` must be aligned as their types ask. The function
