@@ -1,13 +1,14 @@
 -- Laws of the search among a family's edges, and of zones changed one after the other. Assumes
 -- nothing.
 use mathlib.Core.Path.{_≡_, refl, ap}
-use mathlib.Core.Bool.{Bool, true, false, cond}
+use mathlib.Core.Bool.{true, false, cond}
 use mathlib.Core.List.{List, [], _∷_, _++_, map}
 use Prim.Native.Nat.{ℕ, zero, suc, _+_, _≤_, _<_}
 use native.Mathlib.Numerals.{add-one}
 use lib.ListN.{length, take, drop, getD, set}
 use Rattle.fixed.specs.declared.Fixed.{Fixed}
 use Rattle.fixed.specs.Fixed.{ZERO, sameF}
+use Rattle.stems.specs.declared.edge.Side.{Side}
 use Rattle.zones.specs.declared.blues.Blue.{Blue}
 use Rattle.zones.specs.declared.blues.BlueZone.{BlueZone}
 use Rattle.zones.specs.declared.blues.Zones.{Zones}
@@ -16,31 +17,31 @@ use Rattle.zones.specs.Zones.{noBlue, familyEdge, nearer, nearestFrom}
 use Rattle.zones.proofs.Taken.{taken-more, taken-ends}
 
 -- the search from pair i on, among the first n
-abbrev pub searchFrom : Bool → List Blue → ℕ → Fixed → Fixed → Nearest → ℕ → Nearest
-searchFrom bottom bs n flat limit near i = nearestFrom flat limit near (map (familyEdge bottom) (drop i (take n bs)))
+abbrev pub searchFrom : Side → List Blue → ℕ → Fixed → Fixed → Nearest → ℕ → Nearest
+searchFrom side bs n flat limit near i = nearestFrom flat limit near (map (familyEdge side) (drop i (take n bs)))
 
-module _ (bottom : Bool) (bs : List Blue) (n : ℕ) (fits : n ≤ length bs) (flat limit : Fixed) (near : Nearest) (i : ℕ)
+module _ (side : Side) (bs : List Blue) (n : ℕ) (fits : n ≤ length bs) (flat limit : Fixed) (near : Nearest) (i : ℕ)
   where
     -- it takes in pair i, unless the nearest so far ends it
     search-at : i < n →
-        searchFrom bottom bs n flat limit near i ≡
+        searchFrom side bs n flat limit near i ≡
         cond (sameF (near .diff) ZERO) near
-        (searchFrom bottom bs n flat limit (nearer flat limit near (familyEdge bottom (getD bs i noBlue))) (i + 1))
+        (searchFrom side bs n flat limit (nearer flat limit near (familyEdge side (getD bs i noBlue))) (i + 1))
     unfolding nearestFrom
     search-at l = rw (taken-more n bs fits i noBlue l)
 
     -- a distance of 0 ends it
-    pub search-found : i < n → sameF (near .diff) ZERO ≡ true → searchFrom bottom bs n flat limit near i ≡ near
+    pub search-found : i < n → sameF (near .diff) ZERO ≡ true → searchFrom side bs n flat limit near i ≡ near
     search-found l t = rw (search-at l, t)
 
     -- any other distance lets it take in pair i
     pub search-goes : i < n → sameF (near .diff) ZERO ≡ false →
-        searchFrom bottom bs n flat limit near i ≡
-        searchFrom bottom bs n flat limit (nearer flat limit near (familyEdge bottom (getD bs i noBlue))) (i + 1)
+        searchFrom side bs n flat limit near i ≡
+        searchFrom side bs n flat limit (nearer flat limit near (familyEdge side (getD bs i noBlue))) (i + 1)
     search-goes l t = rw (search-at l, t)
 
     -- the end of the list ends it
-    pub search-ends : n ≤ i → searchFrom bottom bs n flat limit near i ≡ near
+    pub search-ends : n ≤ i → searchFrom side bs n flat limit near i ≡ near
     unfolding nearestFrom
     search-ends l = rw (taken-ends n bs fits i l)
 

@@ -1,21 +1,22 @@
 -- Laws of the zones that are kept. Assumes nothing.
 use mathlib.Core.Path.{_≡_, refl, sym, ap, _∙_}
-use mathlib.Core.Bool.{Bool, true, false, cond, _||_}
+use mathlib.Core.Bool.{Bool, true, false, cond}
 use mathlib.Core.List.{List, [], _∷_, _++_, map, append-assoc, append-nil}
 use Prim.Native.Nat.{ℕ, suc, _+_, _-_, _≤_, _<_}
 use native.Mathlib.Omega.{arith}
-use lib.Dec.{eqb}
 use lib.ListN.{length, take, drop, getD, set, length-append, length-take, length-map}
 use borrow.Author.Tests.{ne-eqb}
 use lib.Seq.{set-at, take-append-seam, drop-append-seam}
 use Rattle.fixed.specs.declared.Fixed.{Fixed}
 use Rattle.fixed.specs.Fixed.{ZERO, subF, lessF, maxF}
+use Rattle.stems.specs.declared.edge.Side.{Side}
+use Rattle.stems.specs.declared.edge.Side.the-variants.{Bottom, Top}
 use Rattle.zones.specs.declared.blues.Blue.{Blue}
 use Rattle.zones.specs.declared.blues.Blues.{Blues}
 use Rattle.zones.specs.declared.blues.BlueZone.{BlueZone}
 use Rattle.zones.specs.declared.blues.Zones.{Zones}
 use Rattle.zones.specs.Zones.{noBlue, noZone, heightOf, zoneOf, sift, bluesZones, greatestFrom, filled, packed}
-use Rattle.zones.specs.Zones.{noZones, pushed, keptIn, readIn, listOf, kept, eachIn}
+use Rattle.zones.specs.Zones.{noZones, pushed, keptSide, keptIn, readIn, listOf, kept, eachIn}
 use Rattle.zones.proofs.Taken.{taken-more, taken-ends}
 
 -- a pair read adds at most one zone
@@ -23,7 +24,7 @@ pub kept-count : (other : Bool) (q : Zones) (b : Blue) → keptIn other q b .cou
 unfolding keptIn
 kept-count other q b = go (lessF (heightOf b) ZERO)
   where
-    go : (t : Bool) → cond t q (pushed q (zoneOf (other || eqb (q .count) 0) b) (heightOf b)) .count ≤ q .count + 1
+    go : (t : Bool) → cond t q (pushed q (zoneOf (keptSide other (q .count)) b) (heightOf b)) .count ≤ q .count + 1
     go true = omega arith
     go false = omega arith
 
@@ -40,9 +41,13 @@ module _ (other : Bool) (q : Zones) (n : ℕ) (bs : List Blue) (fits : n ≤ len
   read-ends l = rw (taken-ends n bs fits i l)
 
 -- ---- zones kept, as a list
--- the height of a pair is that of its zone
 abbrev span : BlueZone → Fixed
 span z = subF (z .«cs_top_edge») (z .«cs_bottom_edge»)
+
+-- the height of a pair is that of its zone
+zone-span : (side : Side) (b : Blue) → heightOf b ≡ span (zoneOf side b)
+zone-span Bottom b = refl
+zone-span Top b = refl
 
 greatest-last : (g : Fixed) (zs : List BlueZone) (z : BlueZone) →
     greatestFrom g (zs ++ z ∷ []) ≡ maxF (greatestFrom g zs) (span z)
@@ -62,38 +67,38 @@ push-packed zs z h =
     rw (stored, more, greatest-last ZERO zs z)
 
 -- ---- a list that is read
--- the kind that every zone gets which is kept once there are m
-abbrev Steady : Bool → Bool → ℕ → Type 0
-Steady other bottom m = (n : ℕ) → m ≤ n → (other || eqb n 0) ≡ bottom
+-- what every zone is that is kept once there are m
+abbrev Steady : Bool → Side → ℕ → Type 0
+Steady other side m = (n : ℕ) → m ≤ n → keptSide other n ≡ side
 
 -- what reading some pairs is to give, whatever zones there are
-abbrev Reads : Bool → Bool → List Blue → Type 0
-Reads other bottom bs =
-    (zs : List BlueZone) → Steady other bottom (length zs) → length zs + length bs ≤ 12 →
-    readIn other (packed zs) bs ≡ packed (zs ++ map (zoneOf bottom) (sift bs))
+abbrev Reads : Bool → Side → List Blue → Type 0
+Reads other side bs =
+    (zs : List BlueZone) → Steady other side (length zs) → length zs + length bs ≤ 12 →
+    readIn other (packed zs) bs ≡ packed (zs ++ map (zoneOf side) (sift bs))
 
-module _ (other bottom : Bool) where
-  read-one : (t : Bool) (b : Blue) (bs : List Blue) → Reads other bottom bs → (zs : List BlueZone) →
-      lessF (heightOf b) ZERO ≡ t → Steady other bottom (length zs) → length zs + suc (length bs) ≤ 12 →
-      readIn other (keptIn other (packed zs) b) bs ≡ packed (zs ++ map (zoneOf bottom) (cond t (sift bs) (b ∷ sift bs)))
+module _ (other : Bool) (side : Side) where
+  read-one : (t : Bool) (b : Blue) (bs : List Blue) → Reads other side bs → (zs : List BlueZone) →
+      lessF (heightOf b) ZERO ≡ t → Steady other side (length zs) → length zs + suc (length bs) ≤ 12 →
+      readIn other (keptIn other (packed zs) b) bs ≡ packed (zs ++ map (zoneOf side) (cond t (sift bs) (b ∷ sift bs)))
   unfolding keptIn
   read-one true b bs ih zs e k h = rw e (ih zs k (omega arith))
   read-one false b bs ih zs e k h =
-      let z = zoneOf bottom b in
+      let z = zoneOf side b in
       let more : length (zs ++ z ∷ []) ≡ length zs + 1 = length-append zs (z ∷ []) in
-      rw (e, k (length zs) (omega arith), push-packed zs z (omega arith))
+      rw (e, k (length zs) (omega arith), zone-span side b, push-packed zs z (omega arith))
       (ih (zs ++ z ∷ []) (λ n q. k n (omega arith)) (omega arith) ∙
-      ap packed (append-assoc zs (z ∷ []) (map (zoneOf bottom) (sift bs))))
+      ap packed (append-assoc zs (z ∷ []) (map (zoneOf side) (sift bs))))
 
-  read-all : (bs : List Blue) → Reads other bottom bs
+  read-all : (bs : List Blue) → Reads other side bs
   unfolding readIn sift
   read-all [] zs k h = rw (append-nil zs)
   read-all (b ∷ bs) zs k h = read-one (lessF (heightOf b) ZERO) b bs (read-all bs) zs refl k h
 
 -- other blues are bottom zones
 pub read-others : (zs : List BlueZone) (bs : List Blue) → length zs + length bs ≤ 12 →
-    readIn true (packed zs) bs ≡ packed (zs ++ map (zoneOf true) (sift bs))
-read-others zs bs h = read-all true true bs zs (λ n q. refl) h
+    readIn true (packed zs) bs ≡ packed (zs ++ map (zoneOf Bottom) (sift bs))
+read-others zs bs h = read-all true Bottom bs zs (λ n q. refl) h
 
 -- of the blues the first kept is a bottom zone, and the later ones are top zones
 first-kept : (t : Bool) (b : Blue) (bs : List Blue) → lessF (heightOf b) ZERO ≡ t → length bs < 12 →
@@ -102,9 +107,9 @@ first-kept : (t : Bool) (b : Blue) (bs : List Blue) → lessF (heightOf b) ZERO 
 unfolding keptIn bluesZones
 first-kept true b bs e h ih = rw e ih
 first-kept false b bs e h ih =
-    let z = zoneOf true b in
+    let z = zoneOf Bottom b in
     rw (e, push-packed [] z (omega arith))
-    (read-all false false bs (z ∷ []) (λ n q. ne-eqb n 0 (λ w. omega arith)) (omega arith))
+    (read-all false Top bs (z ∷ []) (λ n q. rw (ne-eqb n 0 (λ w. omega arith))) (omega arith))
 
 pub read-blues : (bs : List Blue) → length bs ≤ 12 → readIn false noZones bs ≡ packed (bluesZones (sift bs))
 unfolding readIn sift bluesZones

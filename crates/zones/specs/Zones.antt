@@ -6,6 +6,8 @@ use lib.Dec.{eqb}
 use lib.ListN.{length, take, drop, set, replicate}
 use Rattle.fixed.specs.declared.Fixed.{Fixed}
 use Rattle.fixed.specs.Fixed.{ZERO, MAX, addF, subF, negF, absF, mulF, roundF, lessF, sameF, maxF}
+use Rattle.stems.specs.declared.edge.Side.{Side}
+use Rattle.stems.specs.declared.edge.Side.the-variants.{Bottom, Top}
 use Rattle.zones.specs.declared.blues.Blue.{Blue}
 use Rattle.zones.specs.declared.blues.Blues.{Blues}
 use Rattle.zones.specs.declared.blues.BlueZone.{BlueZone}
@@ -41,16 +43,21 @@ abbrev pub whollyAbove : Fixed → Blue → Bool
 whollyAbove h b = lessF h (b .bottom) && lessF h (b .top)
 
 -- ---- step 1: the zones kept
--- a bottom zone (true) is flat at its top, a top zone at its bottom
-abbrev pub zoneOf : Bool → Blue → BlueZone
-zoneOf bottom b =
+-- the zone of a pair, a bottom zone (true) or a top zone, that is flat at a height
+abbrev pub zoneFlatAt : Fixed → Bool → Blue → BlueZone
+zoneFlatAt flat bottom b =
     record {
       «is_bottom» = bottom;
       «cs_bottom_edge» = b .bottom;
       «cs_top_edge» = b .top;
-      «cs_flat_edge» = cond bottom (b .top) (b .bottom);
+      «cs_flat_edge» = flat;
       «ds_flat_edge» = ZERO;
     }
+
+-- a bottom zone is flat at its top, a top zone at its bottom
+abbrev pub zoneOf : Side → Blue → BlueZone
+zoneOf Bottom b = zoneFlatAt (b .top) true b
+zoneOf Top b = zoneFlatAt (b .bottom) false b
 
 -- the pairs whose height is not negative
 unfoldable pub sift : List Blue → List Blue
@@ -60,11 +67,11 @@ sift (b ∷ bs) = cond (lessF (heightOf b) ZERO) (sift bs) (b ∷ sift bs)
 -- of the blues the first is a bottom zone, the later ones top zones
 unfoldable pub bluesZones : List Blue → List BlueZone
 bluesZones [] = []
-bluesZones (b ∷ bs) = zoneOf true b ∷ map (zoneOf false) bs
+bluesZones (b ∷ bs) = zoneOf Bottom b ∷ map (zoneOf Top) bs
 
 -- blues in order, then the first five other blues, which are bottom zones
 unfoldable pub kept : Blues → Blues → List BlueZone
-kept blues others = bluesZones (sift (listOf blues)) ++ map (zoneOf true) (sift (take maxOtherBlues (listOf others)))
+kept blues others = bluesZones (sift (listOf blues)) ++ map (zoneOf Bottom) (sift (take maxOtherBlues (listOf others)))
 
 -- for step 3: the greatest height of some zones, or g if that is greater
 unfoldable pub greatestFrom : Fixed → List BlueZone → Fixed
@@ -72,17 +79,18 @@ greatestFrom g [] = g
 greatestFrom g (z ∷ zs) = greatestFrom (maxF g (subF (z .«cs_top_edge») (z .«cs_bottom_edge»))) zs
 
 -- ---- step 2: the family
--- the edges that a family's pairs have for bottom zones (true), and for top zones, which pass over
--- the first pair
-abbrev pub familyEdge : Bool → Blue → Fixed
-familyEdge bottom b = cond bottom (b .top) (b .bottom)
+-- the edges that a family's pairs have for bottom zones, and for top zones, which pass over the
+-- first pair
+abbrev pub familyEdge : Side → Blue → Fixed
+familyEdge Bottom b = b .top
+familyEdge Top b = b .bottom
 
-abbrev pub familyFrom : Bool → ℕ
-familyFrom true = 0
-familyFrom false = 1
+abbrev pub familyFrom : Side → ℕ
+familyFrom Bottom = 0
+familyFrom Top = 1
 
-abbrev pub familyEdges : Bool → Blues → List Fixed
-familyEdges bottom bs = map (familyEdge bottom) (drop (familyFrom bottom) (listOf bs))
+abbrev pub familyEdges : Side → Blues → List Fixed
+familyEdges side bs = map (familyEdge side) (drop (familyFrom side) (listOf bs))
 
 abbrev pub distance : Fixed → Fixed → Fixed
 distance flat edge = absF (subF flat edge)
@@ -103,13 +111,13 @@ nearestFrom flat limit n (x ∷ xs) = cond (sameF (n .diff) ZERO) n (nearestFrom
 abbrev pub unmoved : Fixed → Nearest
 unmoved flat = record { edge = flat; diff = MAX }
 
-unfoldable pub nearestOf : Bool → Blues → Fixed → Fixed → Nearest
-nearestOf bottom bs flat limit = nearestFrom flat limit (unmoved flat) (familyEdges bottom bs)
+unfoldable pub nearestOf : Side → Blues → Fixed → Fixed → Nearest
+nearestOf side bs flat limit = nearestFrom flat limit (unmoved flat) (familyEdges side bs)
 
 -- a bottom zone looks at the family's other blues, a top zone at its blues
 abbrev pub familyNearest : Bool → Blues → Blues → Fixed → Fixed → Nearest
-familyNearest true others blues flat limit = nearestOf true others flat limit
-familyNearest false others blues flat limit = nearestOf false blues flat limit
+familyNearest true others blues flat limit = nearestOf Bottom others flat limit
+familyNearest false others blues flat limit = nearestOf Top blues flat limit
 
 abbrev pub withFlat : BlueZone → Fixed → BlueZone
 withFlat z flat =
@@ -144,7 +152,7 @@ deviceFlat s boost z =
 
 -- ---- zones held by value
 abbrev pub noZone : BlueZone
-noZone = zoneOf false noBlue
+noZone = zoneOf Top noBlue
 
 -- some zones, at most twelve, with blank ones behind them; and the same with their count and
 -- greatest height
@@ -160,9 +168,14 @@ noZones = packed []
 abbrev pub pushed : Zones → BlueZone → Fixed → Zones
 pushed q z h = record { list = set (q .list) (q .count) z; count = q .count + 1; greatest = maxF (q .greatest) h }
 
+-- what a zone is that is kept after n others: of the other blues (true) always a bottom zone, of
+-- the blues only as the first
+abbrev pub keptSide : Bool → ℕ → Side
+keptSide other n = cond (other || eqb n 0) Bottom Top
+
 -- one pair read: of the other blues (true) or of the blues
 unfoldable pub keptIn : Bool → Zones → Blue → Zones
-keptIn other q b = cond (lessF (heightOf b) ZERO) q (pushed q (zoneOf (other || eqb (q .count) 0) b) (heightOf b))
+keptIn other q b = cond (lessF (heightOf b) ZERO) q (pushed q (zoneOf (keptSide other (q .count)) b) (heightOf b))
 
 unfoldable pub readIn : Bool → Zones → List Blue → Zones
 readIn other q [] = q

@@ -1,6 +1,7 @@
 // Lists of pairs, the zones kept of them, and their flat edges.
 use fixed::Fixed;
 use fixed::least;
+use stems::Side;
 ghost use mathlib.Core.Path.{_≡_};
 ghost use Prim.Native.Nat.{_+_, _<_, _≤_};
 ghost use lib.ListN.{take, getD};
@@ -92,26 +93,26 @@ impl BlueZone {
 
     // From `build_zones`: the zone of a pair. A bottom zone is flat at its top, a top zone at its
     // bottom.
-    pub(crate) fn new(pair: Blue, bottom: bool) -> BlueZone
-        ensures { λ r. ⌜ r ≡ zoneOf bottom pair ⌝ }
+    pub(crate) fn new(pair: Blue, side: Side) -> BlueZone
+        ensures { λ r. ⌜ r ≡ zoneOf side pair ⌝ }
     {
         let low = pair.bottom;
         let high = pair.top;
-        if bottom {
-            return BlueZone {
+        match side {
+            Side::Bottom => BlueZone {
                 is_bottom: true,
                 cs_bottom_edge: low,
                 cs_top_edge: high,
                 cs_flat_edge: high,
                 ds_flat_edge: Fixed::ZERO,
-            };
-        }
-        BlueZone {
-            is_bottom: false,
-            cs_bottom_edge: low,
-            cs_top_edge: high,
-            cs_flat_edge: low,
-            ds_flat_edge: Fixed::ZERO,
+            },
+            Side::Top => BlueZone {
+                is_bottom: false,
+                cs_bottom_edge: low,
+                cs_top_edge: high,
+                cs_flat_edge: low,
+                ds_flat_edge: Fixed::ZERO,
+            },
         }
     }
 
@@ -122,12 +123,12 @@ impl BlueZone {
         let flat = self.cs_flat_edge;
         let mut zone = self;
         if self.is_bottom {
-            let near = others.nearest(flat, limit, true);
+            let near = others.nearest(flat, limit, Side::Bottom);
             let edge = near.edge;
             zone.cs_flat_edge = edge;
             return zone;
         }
-        let near = blues.nearest(flat, limit, false);
+        let near = blues.nearest(flat, limit, Side::Top);
         let edge = near.edge;
         zone.cs_flat_edge = edge;
         zone
@@ -187,9 +188,12 @@ impl Zones {
             return self;
         }
         if other {
-            return self.push(BlueZone::new(pair, true), height);
+            return self.push(BlueZone::new(pair, Side::Bottom), height);
         }
-        self.push(BlueZone::new(pair, self.count == 0), height)
+        if self.count == 0 {
+            return self.push(BlueZone::new(pair, Side::Bottom), height);
+        }
+        self.push(BlueZone::new(pair, Side::Top), height)
     }
 
     // From `build_zones`: the first n pairs of a list.
@@ -245,33 +249,33 @@ impl Nearest {
 
 impl Blues {
     // The edge of pair i that a family gives: the top for bottom zones, the bottom for top zones.
-    pub(crate) fn edge(self, i: usize, bottom: bool) -> Fixed
+    pub(crate) fn edge(self, i: usize, side: Side) -> Fixed
         requires { ⌜ i < maxBlues ⌝ }
-        ensures { λ r. ⌜ r ≡ familyEdge bottom (getD (self .pairs) i noBlue) ⌝ }
+        ensures { λ r. ⌜ r ≡ familyEdge side (getD (self .pairs) i noBlue) ⌝ }
     {
         let pair = self.pairs[i];
-        if bottom {
-            return pair.top;
+        match side {
+            Side::Bottom => pair.top,
+            Side::Top => pair.bottom,
         }
-        pair.bottom
     }
 
     // From `build_zones`: the family edge nearest to a flat edge, or that flat edge, and how far it
     // is. For top zones the first pair is passed over.
-    pub(crate) fn nearest(self, flat: Fixed, limit: Fixed, bottom: bool) -> Nearest
-        ensures { λ r. ⌜ r ≡ nearestOf bottom self flat limit ⌝ }
+    pub(crate) fn nearest(self, flat: Fixed, limit: Fixed, side: Side) -> Nearest
+        ensures { λ r. ⌜ r ≡ nearestOf side self flat limit ⌝ }
     {
         let count = least(self.count, MAX_BLUES);
         let mut near = Nearest {
             edge: flat,
             diff: Fixed::MAX,
         };
-        let mut i = first_for(bottom);
+        let mut i = first_for(side);
         while i < count {
             if near.diff.same(Fixed::ZERO) {
                 return near;
             }
-            near = near.with(flat, limit, self.edge(i, bottom));
+            near = near.with(flat, limit, self.edge(i, side));
             i += 1;
         }
         near
@@ -280,11 +284,11 @@ impl Blues {
 
 // The first pair of a family's list that counts: of the other blues the first, of the blues the
 // second.
-fn first_for(bottom: bool) -> usize
-    ensures { λ r. ⌜ r ≡ familyFrom bottom ⌝ }
+fn first_for(side: Side) -> usize
+    ensures { λ r. ⌜ r ≡ familyFrom side ⌝ }
 {
-    if bottom {
-        return 0;
+    match side {
+        Side::Bottom => 0,
+        Side::Top => 1,
     }
-    1
 }

@@ -13,11 +13,11 @@ use Rattle.zones.proofs.blues.Blues.nearest.Statement.{statement}
 use Rattle.zones.proofs.blues.Blues.nearest.Tie as tie
 
 abbrev Inv-loop : tie.InvT-loop
-Inv-loop self flat limit bottom count near₀ i₀ near i =
-    searchFrom bottom (self .pairs) count flat limit near i ≡ nearestOf bottom self flat limit
+Inv-loop self flat limit side count near₀ i₀ near i =
+    searchFrom side (self .pairs) count flat limit near i ≡ nearestOf side self flat limit
 
 abbrev μ-loop : tie.MeasureT-loop
-μ-loop self flat limit bottom count near₀ i₀ near i = count - i
+μ-loop self flat limit side count near₀ i₀ near i = count - i
 
 seven : (s : tie.Start Inv-loop μ-loop) → length (s .args .self .pairs) ≡ 7
 seven s = simp length-map at (s .good .0 .1 .1 .0 .1 .0 .1)
@@ -46,7 +46,7 @@ returns c =
     let at = c .before .before .before in
     let l = at .before .before in
     let test = sym (c .before .same .ensures) ∙ c .if1 .taken in
-    sym (search-found (l .before .args .bottom) _ _ (room l) _ _ _ _ (c .before .before .loop-test .taken) test) ∙
+    sym (search-found (l .before .args .side) _ _ (room l) _ _ _ _ (c .before .before .loop-test .taken) test) ∙
     at .loop .inv
 
 edge-requires : tie.Need-edge-requires Inv-loop μ-loop
@@ -67,14 +67,14 @@ loop-again c =
     let l = at .before .before in
     let test = sym (c .before .before .before .same .ensures) ∙ c .before .before .if1 .left in
     rw (c .with .ensures, c .before .edge .ensures)
-    (sym (search-goes (l .before .args .bottom) _ _ (room l)
+    (sym (search-goes (l .before .args .side) _ _ (room l)
     _ _ _ _ (c .before .before .before .before .loop-test .taken) test) ∙ at .loop .inv)
 
 returns-2 : tie.Need-returns-2 Inv-loop μ-loop
 returns-2 c =
     let at = c .before in
     let l = at .before .before in
-    sym (search-ends (l .before .args .bottom) _ _ (room l) _ _ _ _ (c .loop-test .left)) ∙ at .loop .inv
+    sym (search-ends (l .before .args .side) _ _ (room l) _ _ _ _ (c .loop-test .left)) ∙ at .loop .inv
 
 pub nearest-spec : {M : Type 1} → statement M
 nearest-spec =

@@ -1,5 +1,7 @@
--- `Zones::keep` meets its contract, by the test of the height. Assumes nothing.
+-- `Zones::keep` meets its contract, by the tests of the height, of the list and of the count.
+-- Assumes nothing.
 use borrow.Author.Needs.{needs}
+use borrow.Author.Tests.{eq-eqb, ne-eqb}
 use mathlib.Core.Path.{_≡_, sym, _∙_}
 use Rattle.fixed.specs.Fixed.{ZERO, lessF}
 use Rattle.zones.specs.Zones.{heightOf, keptIn}
@@ -42,9 +44,26 @@ push-requires-2 c κs = search needs
 returns-3 : tie.Need-returns-3
 unfolding keptIn
 returns-3 c =
-    let e = c .before .before .before .before in
-    rw (tested (e .before) ∙ e .if1 .left, c .before .before .before .if2 .left)
+    let f = c .before .before .before .before in
+    let e = f .before in
+    let test = eq-eqb (e .before .before .before .args .self .count) 0 (c .before .before .if3 .taken) in
+    rw (tested (e .before) ∙ e .if1 .left, f .if2 .left, test)
     (c .push2 .ensures ∙ rw (c .before .new2 .ensures, e .before .before .height .ensures))
+
+new-requires-3 : tie.Need-new-requires-3
+new-requires-3 c κs = search needs
+
+push-requires-3 : tie.Need-push-requires-3
+push-requires-3 c κs = search needs
+
+returns-4 : tie.Need-returns-4
+unfolding keptIn
+returns-4 c =
+    let f = c .before .before .before .before in
+    let e = f .before in
+    let test = ne-eqb (e .before .before .before .args .self .count) 0 (c .before .before .if3 .left) in
+    rw (tested (e .before) ∙ e .if1 .left, f .if2 .left, test)
+    (c .push3 .ensures ∙ rw (c .before .new3 .ensures, e .before .before .height .ensures))
 
 pub keep-spec : {M : Type 1} → statement M
 keep-spec =
@@ -58,4 +77,7 @@ keep-spec =
     returns-2
     new-requires-2
     push-requires-2
-    returns-3)
+    returns-3
+    new-requires-3
+    push-requires-3
+    returns-4)

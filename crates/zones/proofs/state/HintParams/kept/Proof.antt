@@ -9,6 +9,7 @@ use lib.ListN.{length, take, length-take, length-map}
 use lib.Seq.{take-take, take-all}
 use borrow.Author.Needs.{needs}
 use Rattle.fixed.proofs.Counts.{take-least}
+use Rattle.stems.specs.declared.edge.Side.the-variants.{Bottom}
 use Rattle.zones.specs.declared.blues.Blue.{Blue}
 use Rattle.zones.specs.declared.blues.BlueZone.{BlueZone}
 use Rattle.zones.specs.declared.blues.Zones.{Zones}
@@ -54,7 +55,7 @@ module _ (c : tie.After-read) where
 
   -- then other blues, of which there are at most five
   then : (bs : List Blue) (q : Zones) → length bs ≤ 5 → q ≡ readIn true (c .read .result) bs →
-      q ≡ packed (first ++ map (zoneOf true) (sift bs))
+      q ≡ packed (first ++ map (zoneOf Bottom) (sift bs))
   then bs q h e = e ∙ ap (λ (z : Zones). readIn true z bs) read ∙ read-others first bs (omega (arith, short))
 
 none-requires : tie.Need-none-requires
