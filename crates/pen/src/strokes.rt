@@ -7,15 +7,15 @@ ghost use Rattle.pen.specs.Strokes.{samePoint, newPen, closingWords, flu
 ghost use Rattle.pen.specs.Strokes.{finishOf};
 
 // The kinds of records.
-const MOVE: i32 = 1;
+pub const MOVE: i32 = 1;
 
-const LINE: i32 = 2;
+pub const LINE: i32 = 2;
 
-const CURVE: i32 = 3;
+pub const CURVE: i32 = 3;
 
-const CLOSE: i32 = 4;
+pub const CLOSE: i32 = 4;
 
-const FINISH: i32 = 5;
+pub const FINISH: i32 = 5;
 
 pub struct Point {
     pub x: Fixed,

@@ -1,22 +1,30 @@
 // How many records there are in some words.
 use fixed::least;
+use pen::CURVE;
+use pen::LINE;
+use pen::MOVE;
 ghost use mathlib.Core.Path.{_≡_};
 ghost use Prim.Native.Nat.{_≤_};
 ghost use lib.ListN.{take};
 ghost use Rattle.script.specs.Count.{sizeOf, recordsIn};
 
+// The words of a record: its kind, and two for each point.
+const POINT_RECORD: usize = 3;
+
+const CURVE_RECORD: usize = 7;
+
 // The words that a record of a kind takes.
 fn size(kind: i32) -> usize
     ensures { λ r. ⌜ (r ≡ sizeOf kind) × (r ≤ 7) ⌝ }
 {
-    if kind == 1 {
-        return 3;
+    if kind == MOVE {
+        return POINT_RECORD;
     }
-    if kind == 2 {
-        return 3;
+    if kind == LINE {
+        return POINT_RECORD;
     }
-    if kind == 3 {
-        return 7;
+    if kind == CURVE {
+        return CURVE_RECORD;
     }
     1
 }

@@ -21,6 +21,9 @@ ghost use Rattle.run.specs.Run.{endingOf, Ended};
 ghost use Rattle.run.specs.Room.{fitted};
 ghost use Rattle.script.specs.Script.{checkRows, zonesOf, stepsIn, scriptOf, Scripted};
 
+// The words before the records of a result.
+const RESULT_HEADER: usize = 4;
+
 // The zones of a script that passes all tests, made once.
 fn zones_of(script: &[u8]) -> HintState
     requires { ⌜ firstOf (checkRows (now script)) ≡ Ok ⌝ }
@@ -69,15 +72,15 @@ pub fn run_script(script: &[u8], out: &mut [i32]) -> Answer
     if fault.code() != 0 {
         return fault;
     }
-    if out.len() < 4 {
+    if out.len() < RESULT_HEADER {
         return Answer::NoRoom(natural(script, layout::COMMANDS_START));
     }
-    let ran = run_commands(script, &mut out[4..]);
+    let ran = run_commands(script, &mut out[RESULT_HEADER..]);
     let answer = ran.answer;
     if answer.code() != 0 {
         return answer;
     }
-    let records = count_records(&out[4..], ran.words);
+    let records = count_records(&out[RESULT_HEADER..], ran.words);
     seal(out, records as u32, ran.words as u32);
     Answer::Ok
 }
