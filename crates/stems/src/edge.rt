@@ -34,7 +34,7 @@ pub enum Kind {
     PairTop,
 }
 
-// Which of a stem's two edges.
+// Bottom or top: of a stem's two edges, and of zones.
 pub enum Side {
     Bottom,
     Top,
