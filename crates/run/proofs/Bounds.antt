@@ -35,7 +35,7 @@ within-room room (t ∷ ts) = by (leb (length (t .words)) room) refl (within-roo
     by false e h = omega arith
 
 -- a call writes at most ten words
-ten : (st : HintState) (d : Drawing) (c : Call) → length (wordsFor st d c) ≤ 10
+pub ten : (st : HintState) (d : Drawing) (c : Call) → length (wordsFor st d c) ≤ 10
 ten st d (stem min max) = omega arith
 ten st d (hintMask m) = omega arith
 ten st d (counterMask m) = omega arith

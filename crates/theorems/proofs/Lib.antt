@@ -2,6 +2,7 @@ pub mod Rooms
 pub mod Params
 pub mod Faults
 pub mod Demand1
+pub mod Ample
 pub mod Sound
 pub mod Made
 pub mod Demand3

@@ -99,6 +99,10 @@ pub record OkWhen (s : List ℕ) (out : List ℤ) : Type 0 where
   pub checked : Checked s
   pub room : 4 + length (wordsAlong (stepsIn s)) ≤ length out
 
+-- room that always suffices: ten words for each command, behind the header
+abbrev pub Ample : List ℕ → List ℤ → Type 0
+Ample s out = 4 + 10 * length (commandsIn s) ≤ length out
+
 abbrev pub When : List ℕ → List ℤ → Answer → Type 0
 When s out Ok = OkWhen s out
 When s out (BadScript p) = BadScriptWhen s p
