@@ -1,5 +1,5 @@
-// The state of one drawing, and the calls on it (01, "Path records" and the rows on lone calls and
-// opening).
+// The calls on a drawing one at a time, and opening one without a script (01, "Path records" and
+// what follows its table).
 mod calls;
 mod opening;
 

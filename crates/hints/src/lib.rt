@@ -1,4 +1,4 @@
-// The hints of a drawing, and the strokes that its current map carries (01, "Stems and masks", "The
+// A drawing: its hints, and the strokes that its current map carries (01, "Stems and masks", "The
 // map", "Path records").
 mod drawing;
 mod hints;

@@ -1,2 +1,3 @@
-// 01's table as a theorem over the definitions of a script: specs/Demand1.antt says what each row
-// says. There is no code here.
+// Theorems, and no code: demand 1 (specs/Demand1, specs/Lone), demand 3 (specs/Reached,
+// specs/Demand3), what definitions that follow a loop come to (specs/Fitting), and whole records
+// (specs/WholeRecords).

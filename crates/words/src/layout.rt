@@ -1,5 +1,4 @@
-// The words of a script: how many there can be, and where they stand. The header comes first, and
-// behind it the parameters.
+// The words of a script: how many there can be, and where they stand.
 pub const MIN_SCRIPT_BYTES: usize = 32;
 
 pub const MAX_SCRIPT_BYTES: usize = 65536;
@@ -14,6 +13,7 @@ pub const MAX_PARAMS: usize = 64;
 // What the first word of a script and of a result says.
 pub const VERSION_ONE: usize = 1;
 
+// Where the words of the header and of the parameters stand.
 pub const VERSION: usize = 0;
 
 pub const SCALE: usize = 1;
