@@ -1,3 +1,3 @@
-pub mod Laid
+pub mod Answering
 pub mod Program
 pub mod Unique

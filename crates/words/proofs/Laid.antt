@@ -1,5 +1,5 @@
 -- Laws of words laid over bytes: four stores lay one, those behind others are laid behind them, and
--- no byte is lost; and of the words of an answer. Assumes nothing.
+-- no byte is lost. Assumes nothing.
 use mathlib.Core.Path.{_≡_, refl, sym, ap, _∙_}
 use mathlib.Core.List.{List, [], _∷_, _++_, map, append-assoc, map-append}
 use Prim.Native.Nat.{ℕ, zero, suc, _+_, _*_, _/_, _%_, _≤_, _<_}
@@ -9,12 +9,8 @@ use native.Mathlib.Omega.{arith}
 use lib.IntN.{ℤ, pos}
 use lib.ListN.{length, take, drop, set, getD, length-append, length-take, length-drop, length-map, take-append-drop}
 use lib.Seq.{length-take-le, take-suc, take-at, drop-at, drop-drop}
-use borrow.Author.Tests.{eq-eqb, ne-eqb}
 use Rattle.fixed.specs.Integers.{bitsOf}
-use Rattle.fixed.proofs.Counts.{take-least}
-use Rattle.words.specs.declared.answer.Answer.{Answer}
-use Rattle.words.specs.Answers.{numberOf, placeOf}
-use Rattle.hint.specs.Encode.{wordBytes, bytesOf, laid, answerWords, resultIn, Answered}
+use Rattle.words.specs.Bytes.{wordBytes, bytesOf, laid}
 
 -- ---- four bytes a word
 pub bytes-length : (ws : List ℕ) → length (bytesOf ws) ≡ 4 * length ws
@@ -22,7 +18,7 @@ unfolding bytesOf
 bytes-length [] = refl
 bytes-length (w ∷ ws) = omega (arith, bytes-length ws)
 
-bytes-append : (ws vs : List ℕ) → bytesOf (ws ++ vs) ≡ bytesOf ws ++ bytesOf vs
+pub bytes-append : (ws vs : List ℕ) → bytesOf (ws ++ vs) ≡ bytesOf ws ++ bytesOf vs
 unfolding bytesOf
 bytes-append [] vs = refl
 bytes-append (w ∷ ws) vs = ap (λ (l : List ℕ). wordBytes w ++ l) (bytes-append ws vs)
@@ -94,8 +90,7 @@ pub one-more : (out : List ℤ) (i : ℕ) → i < length out →
     map bitsOf (take (i + 1) out) ≡ map bitsOf (take i out) ++ (bitsOf (getD out i (pos 0)) ∷ [])
 one-more out i h = rw (add-one, take-suc out i (pos 0) h) (map-append bitsOf (take i out) (getD out i (pos 0) ∷ []))
 
--- ---- an answer
--- the bytes of a word are those of its low 32 bits
+-- ---- the bytes of a word are those of its low 32 bits
 module _ (q r : ℕ) where
   first : (q * 4294967296 + r) % 256 ≡ r % 256
   first = omega arith
@@ -118,37 +113,3 @@ low-bytes n = sym (high-bytes (n / 4294967296) (n % 4294967296)) ∙ ap wordByte
 pub low-laid : (b : List ℕ) (i n : ℕ) → laid b i (n % 4294967296 ∷ []) ≡ laid b i (n ∷ [])
 unfolding laid bytesOf
 low-laid b i n = ap (λ (l : List ℕ). take (4 * i) b ++ ((l ++ []) ++ drop (4 * i + 4 * 1) b)) (low-bytes n)
-
--- number and place are the whole answer where it refuses, and the result is behind them where it
--- does not
-pub refused-words : (a : Answer) (result : List ℤ) → 0 < numberOf a → answerWords a result ≡ numberOf a ∷ placeOf a ∷ []
-unfolding answerWords
-refused-words a result h = rw (ne-eqb (numberOf a) 0 (omega arith))
-
-pub ok-words : (a : Answer) (result : List ℤ) → numberOf a ≡ 0 →
-    answerWords a result ≡ numberOf a ∷ placeOf a ∷ map bitsOf result
-unfolding answerWords
-ok-words a result h = rw (eq-eqb (numberOf a) 0 h)
-
--- the result is the first words of the output
-pub result-taken : (out : List ℤ) → take (length (resultIn out)) out ≡ resultIn out
-unfolding resultIn
-result-taken out =
-    let k = 4 + bitsOf (getD out 3 (pos 0)) in
-    ap (λ (n : ℕ). take n out) (length-take k out) ∙ take-least k (length out) out refl
-
-pub result-short : (out : List ℤ) → length (resultIn out) ≤ length out
-unfolding resultIn
-result-short out = omega (arith, length-take (4 + bitsOf (getD out 3 (pos 0))) out)
-
--- what is answered counts no more bytes than there are
-pub answered-within : {ws bytes left : List ℕ} {count : ℕ} → Answered ws bytes count left → count ≤ length left
-unfolding laid
-answered-within {ws} {bytes} a =
-    omega (
-      arith,
-      a .number,
-      ap length (a .memory),
-      bytes-length ws,
-      length-append (bytesOf ws) (drop (4 * 0 + 4 * length ws) bytes),
-    )

@@ -2,9 +2,9 @@
 use native.Mathlib.Omega.{arith}
 use lib.ListN.{length-set}
 use borrow.Author.Needs.{needs}
-use Rattle.hint.proofs.Laid.{store-laid}
-use Rattle.hint.proofs.encode.store.Statement.{statement}
-use Rattle.hint.proofs.encode.store.Tie as tie
+use Rattle.words.proofs.Laid.{store-laid}
+use Rattle.words.proofs.storing.store.Statement.{statement}
+use Rattle.words.proofs.storing.store.Tie as tie
 
 mul-at : tie.Need-mul-at
 mul-at c = search needs

@@ -1,4 +1,4 @@
--- `check` gives the first fault of a script, by the contracts of its calls. Assumes nothing.
+-- `check_script` gives the first fault of a script, by the contracts of its calls. Assumes nothing.
 use mathlib.Core.Path.{_≡_, sym, ap, _∙_}
 use mathlib.Core.List.{_++_}
 use native.Mathlib.Omega.{arith}
@@ -13,8 +13,8 @@ use Rattle.header.specs.Params.{paramRows}
 use Rattle.header.proofs.Fine.{Fine, fine, header-refusing, params-refusing}
 use Rattle.commands.specs.Faults.{commandRows}
 use Rattle.script.specs.Script.{commandsIn, checkRows}
-use Rattle.script.proofs.checking.check.Statement.{statement}
-use Rattle.script.proofs.checking.check.Tie as tie
+use Rattle.script.proofs.checking.check_script.Statement.{statement}
+use Rattle.script.proofs.checking.check_script.Tie as tie
 
 header-ok : (c : tie.Else1) → firstOf (headerRows (c .before .before .before .before .args .script .now)) ≡ Ok
 header-ok c =
@@ -90,8 +90,8 @@ returns-3 c =
     (header-ok h) ∙ onward Ok (paramRows (rawAt s)) (commandRows (rawAt s 7) (commandsIn s)) (params-refusing s)
     (params-ok e))
 
-pub check-spec : {M : Type 1} → statement M
-check-spec =
+pub check-script-spec : {M : Type 1} → statement M
+check-script-spec =
     tie.close
     (tie.spec
     check-header-requires

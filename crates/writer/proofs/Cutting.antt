@@ -1,0 +1,99 @@
+-- Laws of pieces: words cut into pieces and joined are the words again, and pieces that are whole
+-- come out of their words again. Assumes nothing.
+use mathlib.Core.Path.{_≡_, refl, sym, ap, _∙_}
+use mathlib.Core.Bool.{Bool, true, false, cond}
+use mathlib.Core.List.{List, [], _∷_, _++_}
+use Prim.Native.Nat.{ℕ, zero, suc, _+_, _≤_, _<_}
+use native.Mathlib.Omega.{arith}
+use lib.ListN.{length, take, drop, getD, length-append, length-drop, take-append-drop}
+use lib.Seq.{take-at, drop-at, drop-drop}
+use Rattle.writer.specs.Pieces.{Piece, piecesBy, piecesOf, pieceWords, joined, Whole, isMask, givenOperands}
+use Rattle.writer.specs.Pieces.{pieceAt, bytesTaken, masksIn, started, startsFrom}
+
+module _ (many : ℕ → ℕ) where
+  -- where f pieces are enough, more change nothing
+  enough : (f g : ℕ) (ws : List ℕ) → length ws ≤ f → length ws ≤ g → piecesBy f many ws ≡ piecesBy g many ws
+  unfolding piecesBy
+  enough zero zero ws h k = refl
+  enough zero (suc g) [] h k = refl
+  enough zero (suc g) (w ∷ ws) h k = absurd (omega arith)
+  enough (suc f) zero [] h k = refl
+  enough (suc f) zero (w ∷ ws) h k = absurd (omega arith)
+  enough (suc f) (suc g) [] h k = refl
+  enough (suc f) (suc g) (w ∷ ws) h k =
+      ap (λ (l : List Piece). record { kind = w; operands = take (many w) ws } ∷ l)
+      (enough f g (drop (many w) ws) (omega (arith, length-drop (many w) ws)) (omega (arith, length-drop (many w) ws)))
+
+  pub no-pieces : piecesOf many [] ≡ []
+  unfolding piecesOf piecesBy
+  no-pieces = refl
+
+  pub first-piece : (k : ℕ) (ws : List ℕ) →
+      piecesOf many (k ∷ ws) ≡ record { kind = k; operands = take (many k) ws } ∷ piecesOf many (drop (many k) ws)
+  unfolding piecesOf piecesBy
+  first-piece k ws =
+      ap (λ (l : List Piece). record { kind = k; operands = take (many k) ws } ∷ l)
+      (enough (length ws) (length (drop (many k) ws)) (drop (many k) ws) (omega (arith, length-drop (many k) ws))
+      (omega arith))
+
+  -- words cut into pieces and joined again
+  joined-by : (f : ℕ) (ws : List ℕ) → length ws ≤ f → joined (piecesBy f many ws) ≡ ws
+  unfolding joined piecesBy
+  joined-by zero [] h = refl
+  joined-by zero (w ∷ ws) h = absurd (omega arith)
+  joined-by (suc f) [] h = refl
+  joined-by (suc f) (w ∷ ws) h =
+      ap (λ (l : List ℕ). w ∷ l)
+      (ap (λ (l : List ℕ). take (many w) ws ++ l)
+      (joined-by f (drop (many w) ws) (omega (arith, length-drop (many w) ws))) ∙
+      take-append-drop (many w) ws)
+
+  pub joined-pieces : (ws : List ℕ) → joined (piecesOf many ws) ≡ ws
+  unfolding piecesOf
+  joined-pieces ws = joined-by (length ws) ws (omega arith)
+
+  -- whole pieces joined and cut again
+  pub pieces-joined : (ps : List Piece) → Whole many ps → piecesOf many (joined ps) ≡ ps
+  unfolding joined
+  pieces-joined [] h = no-pieces
+  pieces-joined (p ∷ ps) h =
+      let o = p .operands in
+      let r = joined ps in
+      first-piece (p .kind) (o ++ r) ∙
+      ap (λ (l : List ℕ). record { kind = p .kind; operands = l } ∷ piecesOf many (drop (many (p .kind)) (o ++ r)))
+      (take-at o r (many (p .kind)) (h .0)) ∙
+      ap (λ (l : List ℕ). p ∷ piecesOf many l) (drop-at o r (many (p .kind)) (h .0)) ∙
+      ap (λ (l : List Piece). p ∷ l) (pieces-joined ps (h .1))
+
+-- the rest of a list from a place on
+pub rest-at : (ws : List ℕ) (i : ℕ) → i < length ws → drop i ws ≡ getD ws i 0 ∷ drop (i + 1) ws
+rest-at [] i h = absurd (omega arith)
+rest-at (w ∷ ws) zero h = refl
+rest-at (w ∷ ws) (suc i) h =
+    let e : suc i + 1 ≡ suc (i + 1) = omega arith in
+    rw e (rest-at ws i (omega arith))
+
+-- the given pieces from a word on
+pub piece-at : (ws : List ℕ) (i : ℕ) → i < length ws →
+    piecesOf givenOperands (drop i ws) ≡
+    pieceAt ws i ∷ piecesOf givenOperands (drop (i + 1 + givenOperands (getD ws i 0)) ws)
+piece-at ws i h =
+    let n = givenOperands (getD ws i 0) in
+    let e : n + (i + 1) ≡ i + 1 + n = omega arith in
+    ap (piecesOf givenOperands) (rest-at ws i h) ∙ first-piece givenOperands (getD ws i 0) (drop (i + 1) ws) ∙
+    ap (λ (l : List ℕ). pieceAt ws i ∷ piecesOf givenOperands l) (drop-drop n (i + 1) ws)
+
+-- every mask has one word more with its start
+pub started-length : (n : ℕ) (ps : List Piece) → length (joined (startsFrom n ps)) ≡ length (joined ps) + masksIn ps
+unfolding joined startsFrom masksIn
+started-length n [] = refl
+started-length n (p ∷ ps) = by (isMask (p .kind)) refl (started-length (n + bytesTaken p) ps)
+  where
+    rest : List ℕ
+    rest = joined (startsFrom (n + bytesTaken p) ps)
+
+    by : (b : Bool) → isMask (p .kind) ≡ b → length rest ≡ length (joined ps) + masksIn ps →
+        length (p .kind ∷ (cond b (n ∷ p .operands) (p .operands) ++ rest)) ≡
+        length (p .kind ∷ (p .operands ++ joined ps)) + (cond b 1 0 + masksIn ps)
+    by true e h = omega (arith, length-append (p .operands) rest, length-append (p .operands) (joined ps))
+    by false e h = omega (arith, length-append (p .operands) rest, length-append (p .operands) (joined ps))

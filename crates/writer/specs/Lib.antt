@@ -1,0 +1,3 @@
+pub mod Pieces
+pub mod Given
+pub mod Refusals
