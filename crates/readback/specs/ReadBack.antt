@@ -21,6 +21,7 @@ use Rattle.commands.specs.Commands.{operandsOf}
 use Rattle.script.specs.Script.{checkRows}
 use Rattle.writer.specs.Pieces.{Piece, piecesOf, joined, Whole, unstarted}
 use Rattle.writer.specs.Given.{Given, given}
+use Rattle.writer.specs.Refusals.{over}
 use Rattle.readback.specs.declared.reading_back.ReadBack.{ReadBack}
 
 -- ---- what a script says
@@ -84,10 +85,6 @@ pub record ReadResult : Type 0 where
 unfoldable pub placed : {A : Type 0} → List A → ℕ → List A → List A
 placed lent i xs = take i lent ++ (xs ++ drop (i + length xs) lent)
 
--- some entries at the start of what is lent
-abbrev pub ahead : {A : Type 0} → List A → List A → List A
-ahead xs lent = xs ++ drop (length xs) lent
-
 -- a refusal says nothing else, and changes no buffer
 abbrev pub refusedBack : Answer → ReadBack
 refusedBack a = record { answer = a; scale = ZERO; params = noParams; commands = 0; masks = 0 }
@@ -104,8 +101,8 @@ readBy false a g cs ms =
             commands = length (g .commands);
             masks = length (g .masks);
           };
-      commands = ahead (g .commands) cs;
-      masks = ahead (g .masks) ms;
+      commands = over (g .commands) cs;
+      masks = over (g .masks) ms;
     }
 
 unfoldable pub readBackOf : List ℕ → List ℤ → List ℕ → ReadResult

@@ -11,7 +11,8 @@ ghost use Rattle.fixed.specs.Integers.{signed};
 ghost use Rattle.words.specs.Words.{rawAt};
 ghost use Rattle.commands.specs.Commands.{operandsOf};
 ghost use Rattle.writer.specs.Pieces.{piecesOf, pieceWords, givenOperands, unstarted};
-ghost use Rattle.readback.specs.ReadBack.{wordsFrom, shortened, ahead, placed, scriptPiece, WholeCommands};
+ghost use Rattle.writer.specs.Refusals.{over};
+ghost use Rattle.readback.specs.ReadBack.{wordsFrom, shortened, placed, scriptPiece, WholeCommands};
 
 // How many words the commands have without the starts of their masks.
 pub(crate) fn count_short(script: &[u8], first: usize, n: usize) -> usize
@@ -61,7 +62,7 @@ pub(crate) fn copy_commands(script: &[u8], first: usize, n: usize, commands: &mu
         (length (shortened (piecesOf operandsOf (wordsFrom (rawAt (now script)) first n))) ≤
         length (now commands)) ⌝ }
     ensures { λ _. ⌜ now (commands .exit) ≡
-        ahead (map signed (shortened (piecesOf operandsOf (wordsFrom (rawAt (now (script .entry))) first n))))
+        over (map signed (shortened (piecesOf operandsOf (wordsFrom (rawAt (now (script .entry))) first n))))
         (now (commands .entry)) ⌝ }
 {
     let mut to = 0;
@@ -77,7 +78,7 @@ pub(crate) fn copy_commands(script: &[u8], first: usize, n: usize, commands: &mu
 // So many bytes of a script, from one on.
 pub(crate) fn copy_bytes(script: &[u8], from: usize, n: usize, masks: &mut [u8])
     requires { ⌜ (from + n ≤ length (now script)) × (n ≤ length (now masks)) ⌝ }
-    ensures { λ _. ⌜ now (masks .exit) ≡ ahead (take n (drop from (now (script .entry)))) (now (masks .entry)) ⌝ }
+    ensures { λ _. ⌜ now (masks .exit) ≡ over (take n (drop from (now (script .entry)))) (now (masks .entry)) ⌝ }
 {
     for i in 0..n {
         masks[i] = script[from + i];

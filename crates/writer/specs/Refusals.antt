@@ -98,9 +98,9 @@ pub record WriteResult : Type 0 where
   pub answer : WriteAnswer
   pub left : List ℕ
 
--- a script at the start of what is lent
-unfoldable pub over : List ℕ → List ℕ → List ℕ
-over script lent = script ++ drop (length script) lent
+-- what is written at the start of what is lent, whose rest stands
+unfoldable pub over : {A : Type 0} → List A → List A → List A
+over xs lent = xs ++ drop (length xs) lent
 
 abbrev pub bufferBy : Bool → List ℕ → List ℕ → List ℕ
 bufferBy true script lent = lent

@@ -1,0 +1,2 @@
+-- Assumes nothing.
+use mathlib.Core.Path.{_≡_}
