@@ -2,11 +2,16 @@
 -- come out of their words again. Assumes nothing.
 use mathlib.Core.Path.{_≡_, refl, sym, ap, _∙_}
 use mathlib.Core.Bool.{Bool, true, false, cond}
-use mathlib.Core.List.{List, [], _∷_, _++_}
-use Prim.Native.Nat.{ℕ, zero, suc, _+_, _≤_, _<_}
+use mathlib.Core.List.{List, [], _∷_, _++_, map}
+use Prim.Native.Nat.{ℕ, zero, suc, min, _+_, _-_, _≤_, _<_}
+use native.Mathlib.Numerals.{add-one}
 use native.Mathlib.Omega.{arith}
-use lib.ListN.{length, take, drop, getD, length-append, length-drop, take-append-drop}
-use lib.Seq.{take-at, drop-at, drop-drop}
+use lib.IntN.{ℤ, pos}
+use lib.Dec.{ltb}
+use lib.ListN.{length, take, drop, getD, length-append, length-take, length-drop, take-append-drop, List·getD-map}
+use lib.Seq.{take-at, drop-at, drop-cons, drop-drop, getD-take, getD-drop}
+use borrow.Author.Tests.{lt-ltb, le-ltb, ltb-true, ltb-false}
+use Rattle.fixed.specs.Integers.{lowBits, bitsOf}
 use Rattle.writer.specs.Pieces.{Piece, piecesBy, piecesOf, pieceWords, joined, Whole, isMask, givenOperands}
 use Rattle.writer.specs.Pieces.{pieceAt, bytesTaken, masksIn, started, startsFrom}
 
@@ -67,11 +72,7 @@ module _ (many : ℕ → ℕ) where
 
 -- the rest of a list from a place on
 pub rest-at : (ws : List ℕ) (i : ℕ) → i < length ws → drop i ws ≡ getD ws i 0 ∷ drop (i + 1) ws
-rest-at [] i h = absurd (omega arith)
-rest-at (w ∷ ws) zero h = refl
-rest-at (w ∷ ws) (suc i) h =
-    let e : suc i + 1 ≡ suc (i + 1) = omega arith in
-    rw e (rest-at ws i (omega arith))
+rest-at ws i h = rw (add-one) (drop-cons ws i 0 h)
 
 -- the given pieces from a word on
 pub piece-at : (ws : List ℕ) (i : ℕ) → i < length ws →
@@ -97,3 +98,24 @@ started-length n (p ∷ ps) = by (isMask (p .kind)) refl (started-length (n + by
         length (p .kind ∷ (p .operands ++ joined ps)) + (cond b 1 0 + masksIn ps)
     by true e h = omega (arith, length-append (p .operands) rest, length-append (p .operands) (joined ps))
     by false e h = omega (arith, length-append (p .operands) rest, length-append (p .operands) (joined ps))
+
+-- a given word's bits
+pub bits-at : (cs : List ℤ) (i : ℕ) → getD (map bitsOf cs) i 0 ≡ bitsOf (getD cs i (pos 0))
+unfolding lowBits
+bits-at cs i = List·getD-map bitsOf cs i (pos 0)
+
+-- a piece is cut off where its operands would end behind the words
+pub cut-at : (ws : List ℕ) (i n : ℕ) → i < length ws →
+    ltb (length (take n (drop (i + 1) ws))) n ≡ ltb (length ws) (i + 1 + n)
+cut-at ws i n h = by (ltb (length ws) (i + 1 + n)) refl
+  where
+    there : length (take n (drop (i + 1) ws)) ≡ min n (length ws - (i + 1))
+    there = length-take n (drop (i + 1) ws) ∙ ap (min n) (length-drop (i + 1) ws)
+
+    by : (b : Bool) → ltb (length ws) (i + 1 + n) ≡ b → ltb (length (take n (drop (i + 1) ws))) n ≡ b
+    by true e = lt-ltb _ _ (omega (arith, there, ltb-true _ _ e))
+    by false e = le-ltb _ _ (omega (arith, there, ltb-false _ _ e))
+
+-- the first operand of a piece that has one
+pub operand-at : (ws : List ℕ) (i n : ℕ) → 0 < n → getD (take n (drop (i + 1) ws)) 0 0 ≡ getD ws (i + 1) 0
+operand-at ws i n h = getD-take n (drop (i + 1) ws) 0 0 h ∙ getD-drop (i + 1) ws 0 0
