@@ -14,6 +14,7 @@ use zones::Blues;
 use zones::HintParams;
 use zones::MAX_BLUES;
 ghost use mathlib.Core.Path.{_≡_};
+ghost use mathlib.Core.Bool.{false};
 ghost use lib.ListN.{length};
 ghost use Rattle.words.specs.declared.answer.Answer.the-variants.{Ok};
 ghost use Rattle.words.specs.Answers.{firstOf};
