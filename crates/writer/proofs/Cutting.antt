@@ -113,9 +113,19 @@ cut-at ws i n h = by (ltb (length ws) (i + 1 + n)) refl
     there = length-take n (drop (i + 1) ws) ∙ ap (min n) (length-drop (i + 1) ws)
 
     by : (b : Bool) → ltb (length ws) (i + 1 + n) ≡ b → ltb (length (take n (drop (i + 1) ws))) n ≡ b
-    by true e = lt-ltb _ _ (omega (arith, there, ltb-true _ _ e))
-    by false e = le-ltb _ _ (omega (arith, there, ltb-false _ _ e))
+    by true e = lt-ltb (length (take n (drop (i + 1) ws))) n (omega (arith, there, ltb-true (length ws) (i + 1 + n) e))
+    by false e = le-ltb (length (take n (drop (i + 1) ws))) n (omega (arith, there, ltb-false (length ws) (i + 1 + n) e))
 
 -- the first operand of a piece that has one
 pub operand-at : (ws : List ℕ) (i n : ℕ) → 0 < n → getD (take n (drop (i + 1) ws)) 0 0 ≡ getD ws (i + 1) 0
-operand-at ws i n h = getD-take n (drop (i + 1) ws) 0 0 h ∙ getD-drop (i + 1) ws 0 0
+operand-at ws i n h =
+    let e : i + 1 + 0 ≡ i + 1 = omega arith in
+    getD-take n (drop (i + 1) ws) 0 0 h ∙ getD-drop (i + 1) ws 0 0 ∙ ap (λ (k : ℕ). getD ws k 0) e
+
+-- a mask takes as many bytes as the word behind its kind says, and what is no mask takes none
+pub mask-takes : (ws : List ℕ) (i : ℕ) → isMask (getD ws i 0) ≡ true → bytesTaken (pieceAt ws i) ≡ getD ws (i + 1) 0
+unfolding givenOperands
+mask-takes ws i e = rw e (operand-at ws i 1 (omega arith))
+
+pub others-take : (ws : List ℕ) (i : ℕ) → isMask (getD ws i 0) ≡ false → bytesTaken (pieceAt ws i) ≡ 0
+others-take ws i e = rw e

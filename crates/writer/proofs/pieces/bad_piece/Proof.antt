@@ -32,7 +32,18 @@ add-result-2 : tie.Need-add-result-2
 add-result-2 c = search needs
 
 returns-3 : tie.Need-returns-3
-returns-3 c = ?
+returns-3 c =
+    let n = c .before .before .before .given-natural in
+    let a = c .before .before .before .before .args in
+    let ws = map bitsOf (a .commands .now) in
+    let many : length ws ≡ length (a .commands .now) = length-map (a .commands .now) bitsOf in
+    rw (
+      sym (n .ensures .0),
+      inside 1 9 (n .result) (omega arith) (omega arith),
+      cut-at ws (a .at) (givenOperands (n .result)) (omega (arith, many, c .before .before .before .before .pre)),
+      many,
+      sym (c .given-operands .ensures .0),
+    )
 
 pub bad-piece-spec : {M : Type 1} → statement M
 bad-piece-spec =
