@@ -8,8 +8,10 @@ use native.Mathlib.Numerals.{add-one}
 use native.Mathlib.Omega.{arith}
 use lib.IntN.{ℤ, pos}
 use lib.Dec.{ltb}
-use lib.ListN.{length, take, drop, getD, length-append, length-take, length-drop, take-append-drop, List·getD-map}
+use lib.ListN.{length, take, drop, getD, length-append, length-take, length-drop, take-append-drop}
+use lib.ListN.{drop-of-length-le, List·getD-map}
 use lib.Seq.{take-at, drop-at, drop-cons, drop-drop, getD-take, getD-drop}
+use mir.Val.{boolByte}
 use borrow.Author.Tests.{lt-ltb, le-ltb, ltb-true, ltb-false}
 use Rattle.fixed.specs.Integers.{lowBits, bitsOf}
 use Rattle.writer.specs.Pieces.{Piece, piecesBy, piecesOf, pieceWords, joined, Whole, isMask, givenOperands}
@@ -129,3 +131,27 @@ mask-takes ws i e = rw e (operand-at ws i 1 (omega arith))
 
 pub others-take : (ws : List ℕ) (i : ℕ) → isMask (getD ws i 0) ≡ false → bytesTaken (pieceAt ws i) ≡ 0
 others-take ws i e = rw e
+
+pub at-most-one : (b : Bool) → boolByte b ≤ 1
+at-most-one true = omega arith
+at-most-one false = omega arith
+
+-- the masks from a word on
+pub masks-at : (ws : List ℕ) (i : ℕ) → i < length ws →
+    masksIn (piecesOf givenOperands (drop i ws)) ≡
+    boolByte (isMask (getD ws i 0)) + masksIn (piecesOf givenOperands (drop (i + 1 + givenOperands (getD ws i 0)) ws))
+unfolding masksIn
+masks-at ws i h = ap masksIn (piece-at ws i h) ∙ by (isMask (getD ws i 0))
+  where
+    rest : ℕ
+    rest = masksIn (piecesOf givenOperands (drop (i + 1 + givenOperands (getD ws i 0)) ws))
+
+    by : (b : Bool) → cond b 1 0 + rest ≡ boolByte b + rest
+    by true = refl
+    by false = refl
+
+-- and none behind the last
+pub masks-none : (ws : List ℕ) (i : ℕ) → length ws ≤ i → masksIn (piecesOf givenOperands (drop i ws)) ≡ 0
+unfolding masksIn
+masks-none ws i h =
+    ap (λ (l : List ℕ). masksIn (piecesOf givenOperands l)) (drop-of-length-le ws h) ∙ ap masksIn (no-pieces givenOperands)

@@ -6,11 +6,14 @@ use crate::pieces::given_operands;
 use crate::write_answer::WriteAnswer;
 use fixed::Fixed;
 use words::layout;
+use zones::Blues;
 use zones::HintParams;
 use zones::MAX_BLUES;
 ghost use mathlib.Core.Path.{_≡_};
 ghost use mathlib.Core.List.{_++_};
 ghost use Prim.Native.Nat.{_+_, _*_, _≤_};
+ghost use lib.Dec.{ltb};
+ghost use Rattle.zones.specs.Zones.{maxBlues};
 ghost use Rattle.words.specs.Rows.{firstOr};
 ghost use Rattle.header.specs.Header.{padded};
 ghost use Rattle.writer.specs.declared.write_answer.WriteAnswer.the-variants.{Written};
@@ -20,6 +23,12 @@ ghost use Rattle.writer.specs.Refusals.{givenRows, tooLong, pieceRows, r
 // 2^31, from which on 32 bits are negative.
 const NEGATIVE: usize = 2147483648;
 
+fn too_many(blues: Blues) -> bool
+    ensures { λ r. ⌜ r ≡ ltb maxBlues (blues .count) ⌝ }
+{
+    MAX_BLUES < blues.count
+}
+
 // The scale and the four counts.
 fn check_numbers(scale: Fixed, params: HintParams) -> WriteAnswer
     ensures { λ r. ⌜ r ≡ firstOr (Written 0) (givenRows scale params) ⌝ }
@@ -27,20 +36,16 @@ fn check_numbers(scale: Fixed, params: HintParams) -> WriteAnswer
     if scale.bits < 1 {
         return WriteAnswer::BadScale;
     }
-    let blues = params.blues;
-    if MAX_BLUES < blues.count {
+    if too_many(params.blues) {
         return WriteAnswer::BadBlues(layout::BLUES_COUNT);
     }
-    let others = params.other_blues;
-    if MAX_BLUES < others.count {
+    if too_many(params.other_blues) {
         return WriteAnswer::BadBlues(layout::OTHER_BLUES_COUNT);
     }
-    let family = params.family_blues;
-    if MAX_BLUES < family.count {
+    if too_many(params.family_blues) {
         return WriteAnswer::BadBlues(layout::FAMILY_BLUES_COUNT);
     }
-    let family_others = params.family_other_blues;
-    if MAX_BLUES < family_others.count {
+    if too_many(params.family_other_blues) {
         return WriteAnswer::BadBlues(layout::FAMILY_OTHER_BLUES_COUNT);
     }
     WriteAnswer::Written(0)

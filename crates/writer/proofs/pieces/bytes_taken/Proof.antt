@@ -24,9 +24,11 @@ returns : tie.Need-returns
 returns c =
     let k = c .before .is-mask in
     let n = c .before .before .given-natural in
-    let a = c .before .before .before .args in
-    (sym (others-take (map bitsOf (a .commands .now)) (a .at) (ap isMask (sym (n .ensures .0)) ∙ sym (k .ensures) ∙
-    not-true _ (c .if1 .taken))), omega arith)
+    let a = c .before .before .before .args in (
+      sym (others-take (map bitsOf (a .commands .now)) (a .at) (ap isMask (sym (n .ensures .0)) ∙ sym (k .ensures) ∙
+          not-true _ (c .if1 .taken))),
+      omega arith,
+    )
 
 add-if2 : tie.Need-add-if2
 add-if2 c = search needs
@@ -36,9 +38,11 @@ returns-2 c =
     let k = c .before .before .is-mask in
     let n = c .before .before .before .given-natural in
     let a = c .before .before .before .before .args in
-    let ws = map bitsOf (a .commands .now) in
-    (sym (mask-takes ws (a .at) (ap isMask (sym (n .ensures .0)) ∙ sym (k .ensures) ∙ not-false _ (c .before .if1 .left)) ∙
-    List·getD-eq-default ws 0 (omega (arith, length-map (a .commands .now) bitsOf))), omega arith)
+    let ws = map bitsOf (a .commands .now) in (
+      sym (mask-takes ws (a .at) (ap isMask (sym (n .ensures .0)) ∙ sym (k .ensures) ∙ not-false _ (c .before .if1 .left)) ∙
+          List·getD-eq-default ws 0 (omega (arith, length-map (a .commands .now) bitsOf))),
+      omega arith,
+    )
 
 add-given-natural : tie.Need-add-given-natural
 add-given-natural c = search needs
@@ -52,10 +56,11 @@ returns-3 c =
     let k = l .before .before .is-mask in
     let n = l .before .before .before .given-natural in
     let a = l .before .before .before .before .args in
-    let ws = map bitsOf (a .commands .now) in
-    (c .given-natural2 .ensures .0 ∙
-    sym (mask-takes ws (a .at) (ap isMask (sym (n .ensures .0)) ∙ sym (k .ensures) ∙ not-false _ (l .before .if1 .left))),
-    c .given-natural2 .ensures .1)
+    let ws = map bitsOf (a .commands .now) in (
+      c .given-natural2 .ensures .0 ∙
+          sym (mask-takes ws (a .at) (ap isMask (sym (n .ensures .0)) ∙ sym (k .ensures) ∙ not-false _ (l .before .if1 .left))),
+      c .given-natural2 .ensures .1,
+    )
 
 pub bytes-taken-spec : {M : Type 1} → statement M
 bytes-taken-spec =
