@@ -1,9 +1,9 @@
 -- Laws of the words of a script's header and parameters: how many there are. Assumes nothing.
 use mathlib.Core.Path.{_≡_, refl, ap, _∙_}
 use mathlib.Core.List.{List, [], _∷_, _++_}
-use Prim.Native.Nat.{ℕ, _+_, _*_, _≤_, _<_}
+use Prim.Native.Nat.{ℕ, zero, suc, _+_, _*_, _≤_, _<_}
 use native.Mathlib.Omega.{arith}
-use lib.ListN.{length, length-append}
+use lib.ListN.{length, take, getD, length-append}
 use lib.Seq.{length-take-le}
 use mir.Syntax.{w32}
 use mir.Facts.{ofZ-toZ, sfits-toZ, fits-of-lt}
@@ -12,8 +12,8 @@ use Rattle.fixed.proofs.Bits.{whole-low}
 use Rattle.zones.specs.declared.blues.Blue.{Blue}
 use Rattle.zones.specs.declared.blues.Blues.{Blues}
 use Rattle.zones.specs.declared.state.HintParams.{HintParams}
-use Rattle.zones.specs.Zones.{maxBlues, listOf}
-use Rattle.writer.specs.Given.{pairWords, numberWords, paramWords}
+use Rattle.zones.specs.Zones.{maxBlues, noBlue, listOf}
+use Rattle.writer.specs.Given.{numberWord, pairWords, numberWords, paramWords}
 use Rattle.writer.specs.Refusals.{FineParams}
 
 pub pair-words : (bs : List Blue) → length (pairWords bs) ≡ 2 * length bs
@@ -58,3 +58,13 @@ params-length p s f =
 pub signed-bits : (n : ℕ) → n < 4294967296 → bitsOf (signed n) ≡ n
 unfolding signed
 signed-bits n h = whole-low {w = w32} _ (sfits-toZ (fits-of-lt h)) ∙ ofZ-toZ {w = w32} (fits-of-lt h)
+
+-- one pair more
+pub one-pair : (bs : List Blue) (i : ℕ) → i < length bs →
+    pairWords (take (i + 1) bs) ≡ pairWords (take i bs) ++ pairWords (getD bs i noBlue ∷ [])
+unfolding pairWords
+one-pair [] i h = absurd (omega arith)
+one-pair (b ∷ bs) zero h = refl
+one-pair (b ∷ bs) (suc i) h =
+    let e : suc i + 1 ≡ suc (i + 1) = omega arith in
+    rw e (ap (λ (l : List ℕ). numberWord (b .bottom) ∷ numberWord (b .top) ∷ l) (one-pair bs i (omega arith)))

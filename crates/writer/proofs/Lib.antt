@@ -1,3 +1,4 @@
 pub mod Cutting
 pub mod Faults
 pub mod Laying
+pub mod Padding
