@@ -155,3 +155,25 @@ pub masks-none : (ws : List ℕ) (i : ℕ) → length ws ≤ i → masksIn (piec
 unfolding masksIn
 masks-none ws i h =
     ap (λ (l : List ℕ). masksIn (piecesOf givenOperands l)) (drop-of-length-le ws h) ∙ ap masksIn (no-pieces givenOperands)
+
+-- ---- a piece as it is stored
+-- a mask is its kind, its start and its length
+pub mask-stored : (ws : List ℕ) (i n : ℕ) → isMask (getD ws i 0) ≡ true → i + 1 < length ws →
+    pieceWords (started n (pieceAt ws i)) ≡ getD ws i 0 ∷ n ∷ getD ws (i + 1) 0 ∷ []
+unfolding givenOperands
+mask-stored ws i n e h = rw e (ap (λ (l : List ℕ). getD ws i 0 ∷ n ∷ take 1 l) (rest-at ws (i + 1) h))
+
+-- every other piece is its own words
+pub other-stored : (ws : List ℕ) (i n : ℕ) → isMask (getD ws i 0) ≡ false → i < length ws →
+    pieceWords (started n (pieceAt ws i)) ≡ take (1 + operandsOf (getD ws i 0)) (drop i ws)
+unfolding givenOperands
+other-stored ws i n e h =
+    rw (e, rest-at ws i h, one-add) refl
+
+-- words given and bits taken, in either order
+pub bits-part : (cs : List ℤ) (i n : ℕ) → map bitsOf (take n (drop i cs)) ≡ take n (drop i (map bitsOf cs))
+bits-part cs zero zero = refl
+bits-part [] zero (suc n) = refl
+bits-part (c ∷ cs) zero (suc n) = ap (λ (l : List ℕ). bitsOf c ∷ l) (bits-part cs zero n)
+bits-part [] (suc i) n = ?
+bits-part (c ∷ cs) (suc i) n = bits-part cs i n
