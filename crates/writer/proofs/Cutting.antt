@@ -10,10 +10,11 @@ use lib.IntN.{ℤ, pos}
 use lib.Dec.{ltb}
 use lib.ListN.{length, take, drop, getD, length-append, length-take, length-drop, take-append-drop}
 use lib.ListN.{drop-of-length-le, List·getD-map}
-use lib.Seq.{take-at, drop-at, drop-cons, drop-drop, getD-take, getD-drop}
+use lib.Seq.{take-nil, take-at, drop-at, drop-cons, drop-drop, getD-take, getD-drop}
 use mir.Val.{boolByte}
 use borrow.Author.Tests.{lt-ltb, le-ltb, ltb-true, ltb-false}
 use Rattle.fixed.specs.Integers.{lowBits, bitsOf}
+use Rattle.commands.specs.Commands.{operandsOf}
 use Rattle.writer.specs.Pieces.{Piece, piecesBy, piecesOf, pieceWords, joined, Whole, isMask, givenOperands}
 use Rattle.writer.specs.Pieces.{pieceAt, bytesTaken, masksIn, started, startsFrom}
 
@@ -168,12 +169,23 @@ pub other-stored : (ws : List ℕ) (i n : ℕ) → isMask (getD ws i 0) ≡ fals
     pieceWords (started n (pieceAt ws i)) ≡ take (1 + operandsOf (getD ws i 0)) (drop i ws)
 unfolding givenOperands
 other-stored ws i n e h =
-    rw (e, rest-at ws i h, one-add) refl
+    let o = operandsOf (getD ws i 0) in
+    let s : 1 + o ≡ suc o = omega arith in
+    rw e (sym (ap (take (1 + o)) (rest-at ws i h) ∙ ap (λ (k : ℕ). take k (getD ws i 0 ∷ drop (i + 1) ws)) s))
 
 -- words given and bits taken, in either order
 pub bits-part : (cs : List ℤ) (i n : ℕ) → map bitsOf (take n (drop i cs)) ≡ take n (drop i (map bitsOf cs))
 bits-part cs zero zero = refl
 bits-part [] zero (suc n) = refl
 bits-part (c ∷ cs) zero (suc n) = ap (λ (l : List ℕ). bitsOf c ∷ l) (bits-part cs zero n)
-bits-part [] (suc i) n = ?
+bits-part [] (suc i) n = ap (map bitsOf) (take-nil {A = ℤ} n) ∙ sym (take-nil {A = ℕ} n)
 bits-part (c ∷ cs) (suc i) n = bits-part cs i n
+
+-- a mask has one operand as it is given, and every other kind has its own
+pub mask-operands : (k : ℕ) → isMask k ≡ true → givenOperands k ≡ 1
+unfolding givenOperands
+mask-operands k e = rw e
+
+pub other-operands : (k : ℕ) → isMask k ≡ false → givenOperands k ≡ operandsOf k
+unfolding givenOperands
+other-operands k e = rw e
