@@ -2,3 +2,4 @@ pub mod Cutting
 pub mod Faults
 pub mod Laying
 pub mod Padding
+pub mod Walking
