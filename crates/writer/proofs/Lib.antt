@@ -3,3 +3,4 @@ pub mod Faults
 pub mod Laying
 pub mod Padding
 pub mod Walking
+pub mod Sizes
