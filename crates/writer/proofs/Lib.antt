@@ -4,3 +4,4 @@ pub mod Laying
 pub mod Padding
 pub mod Walking
 pub mod Sizes
+pub mod Answering
