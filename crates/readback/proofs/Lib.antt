@@ -1,0 +1,5 @@
+pub mod Accepted
+pub mod Placing
+pub mod Rooms
+pub mod Shortened
+pub mod Unique

@@ -1,2 +1,0 @@
--- Assumes nothing.
-use mathlib.Core.Path.{_≡_}
