@@ -1,3 +1,4 @@
 pub mod Pieces
 pub mod Given
+pub mod ParamWords
 pub mod Refusals
