@@ -3,7 +3,8 @@
 
    Link target/staticlib/libspoonglacier.a, which `rt staticlib spoonglacier` makes: x86-64 code for
    Linux. docs/SCRIPT.md explains every word of a script and of a result, and how to link from C and
-   from Rust; examples/first.c is a whole program, and examples/write.c writes a script and runs it. */
+   from Rust; examples/first.c is a whole program, and examples/write.c writes a script and runs
+   it. */
 #ifndef SPOONGLACIER_H
 #define SPOONGLACIER_H
 
@@ -129,8 +130,8 @@ typedef struct {
     (4 * (SPOONGLACIER_HEADER_WORDS + SPOONGLACIER_PARAMS_WORDS + (command_words)) + \
      2 * (command_words) + ((mask_bytes) + 3) / 4 * 4)
 
-/* Writes the script that says what is given at the start of a buffer, and answers one of the numbers
-   above, never BAD_SCRIPT or NO_ROOM.
+/* Writes the script that says what is given at the start of a buffer, and answers one of the
+   numbers above, never BAD_SCRIPT or NO_ROOM.
 
    scale     the scale in 16.16. Below 1 it is BAD_SCALE, place 1.
    params    `params_words` words, of which the first 64 are read, as in spoonglacier_params. Words
@@ -151,9 +152,9 @@ typedef struct {
 
    Refusals come in this order: the scale, the counts, the commands first to last, bytes left over,
    SCRIPT_ROOM. Neither `written` nor `place` may be null or lie in a buffer, and they are two. A
-   length of 0 goes with any pointer, null included; pointers to words must be aligned as their types
-   ask. spoonglacier_run never answers the numbers 1 to 5 for what is written, and docs/PROMISES.md has
-   that as a theorem. Stack, threads and state are as for spoonglacier_run. */
+   length of 0 goes with any pointer, null included; pointers to words must be aligned as their
+   types ask. spoonglacier_run never answers the numbers 1 to 5 for what is written, which is
+   proved. Stack, threads and state are as for spoonglacier_run. */
 uint32_t spoonglacier_write(int32_t scale, const int32_t *params, size_t params_words,
                             const int32_t *commands, size_t command_words, const uint8_t *masks,
                             size_t mask_bytes, uint8_t *script, size_t script_bytes,
