@@ -96,7 +96,8 @@ returns c =
     let k = c .before .before in
     let s = k .before .before .args in
     let n = ap numberOf (k .check-script .ensures) in
-    subst (λ (a : Answer). Scripted (scriptOf (s .script .now) (s .out .now)) a (s .out .now)) (sym (k .check-script .ensures))
+    subst (λ (a : Answer). Scripted (scriptOf (s .script .now) (s .out .now)) a (s .out .now))
+    (sym (k .check-script .ensures))
     (by-fault (s .script .now) (s .out .now)
     (refused (firstOf (checkRows (s .script .now))) (omega (arith, n, c .before .code .ensures, c .if1 .taken))))
 

@@ -19,7 +19,8 @@ fits c = search needs
 returns : tie.Need-returns
 unfolding wrap32
 returns c =
-    ap fromBits (toZ-ofZ (fits c) ∙ sym (wrap-id (c .word-or-zero .result) (fits c)) ∙ ap wrap32 (c .word-or-zero .ensures))
+    ap fromBits
+    (toZ-ofZ (fits c) ∙ sym (wrap-id (c .word-or-zero .result) (fits c)) ∙ ap wrap32 (c .word-or-zero .ensures))
 
 pub number-or-zero-spec : {M : Type 1} → statement M
 number-or-zero-spec = tie.close (tie.spec word-or-zero-requires returns)

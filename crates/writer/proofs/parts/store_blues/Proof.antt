@@ -92,7 +92,8 @@ returns : tie.Need-returns Inv-loop μ-loop
 returns c =
     let l = c .before in
     let e : l .loop .i ≡ begin l .args .t3 .count = omega arith in
-    l .loop .inv .0 ∙ ap (λ (k : ℕ). laid (lent l) (begin l .args .first) (pairWords (take k (begin l .args .t3 .pairs)))) e
+    l .loop .inv .0 ∙
+    ap (λ (k : ℕ). laid (lent l) (begin l .args .first) (pairWords (take k (begin l .args .t3 .pairs)))) e
 
 pub store-blues-spec : {M : Type 1} → statement M
 store-blues-spec =

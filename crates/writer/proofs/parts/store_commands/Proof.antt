@@ -53,7 +53,8 @@ module _ (c : tie.In-loop Inv-loop μ-loop) where
 
   -- its words have room, and so have those behind it
   room : 4 * (c .before .loop .to + length (pieceWords (started start (pieceAt words at))) +
-      length (left words (nextPiece words at) (start + bytesTaken (pieceAt words at)))) ≤ length (begin .args .script .now)
+      length (left words (nextPiece words at) (start + bytesTaken (pieceAt words at)))) ≤
+      length (begin .args .script .now)
   room =
       let p = pieceWords (started start (pieceAt words at)) in
       let q = left words (nextPiece words at) (start + bytesTaken (pieceAt words at)) in
@@ -86,7 +87,10 @@ loop-holds c =
     let a = c .before .args in
     let e = left-all (a .commands .now) in (
       ap (laid (a .script .now) (a .first)) (sym e),
-      (sound-first (a .commands .now) (c .before .pre .1), (omega (arith, c .before .pre .0, ap length e), omega arith)),
+      (
+        sound-first (a .commands .now) (c .before .pre .1),
+        (omega (arith, c .before .pre .0, ap length e), omega arith),
+      ),
     )
 
 given-natural-requires : tie.Need-given-natural-requires Inv-loop μ-loop
@@ -162,7 +166,8 @@ returns c =
     let a = l .before .before .args in
     let ws = map bitsOf (a .commands .now) in
     let e = left-none ws (l .loop .at) (l .loop .start) (omega (arith, length-map (a .commands .now) bitsOf)) in
-    sym (laid-none (l .loop .script) (l .loop .to)) ∙ ap (laid (l .loop .script) (l .loop .to)) (sym e) ∙ l .loop .inv .0
+    sym (laid-none (l .loop .script) (l .loop .to)) ∙ ap (laid (l .loop .script) (l .loop .to)) (sym e) ∙
+    l .loop .inv .0
 
 pub store-commands-spec : {M : Type 1} → statement M
 store-commands-spec =

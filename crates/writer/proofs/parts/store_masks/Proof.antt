@@ -29,7 +29,8 @@ fits : (s : tie.Start Inv-loop μ-loop Inv-loop2 μ-loop2) → length (s .args .
 fits s = omega (arith, s .pre)
 
 -- the part keeps its length
-same : (c : tie.At-loop Inv-loop μ-loop Inv-loop2 μ-loop2) → length (c .loop .part) ≡ length (c .before .args .part .now)
+same : (c : tie.At-loop Inv-loop μ-loop Inv-loop2 μ-loop2) →
+    length (c .loop .part) ≡ length (c .before .args .part .now)
 same c =
     ap length (c .loop .inv .0) ∙
     copied-length (c .before .args .part .now) (c .before .args .masks .now) (c .loop .i) (omega arith)
@@ -39,8 +40,8 @@ same2 : (c : tie.At-loop2 Inv-loop μ-loop Inv-loop2 μ-loop2) →
     length (c .loop2 .part) ≡ length (c .before .before .loop .part)
 same2 c =
     ap length (c .loop2 .inv .0) ∙
-    zeroed-length (c .before .before .loop .part) (c .before .before .before .args .masks .now) (c .loop2 .i) (omega arith)
-    (omega arith)
+    zeroed-length (c .before .before .loop .part) (c .before .before .before .args .masks .now) (c .loop2 .i)
+    (omega arith) (omega arith)
 
 loop-holds : tie.Need-loop-holds Inv-loop μ-loop Inv-loop2 μ-loop2
 loop-holds c = (refl, (omega arith, omega arith))

@@ -14,6 +14,16 @@ use Rattle.writer.proofs.Cutting.{mask-takes, others-take}
 use Rattle.writer.proofs.pieces.bytes_taken.Statement.{statement}
 use Rattle.writer.proofs.pieces.bytes_taken.Tie as tie
 
+-- the piece is a mask
+module _ (c : tie.Else1) where
+  abbrev begin : tie.Start
+  begin = c .before .before .before
+
+  mask : isMask (getD (map bitsOf (begin .args .commands .now)) (begin .args .at) 0) ≡ true
+  mask =
+      ap isMask (sym (c .before .before .given-natural .ensures .0)) ∙ sym (c .before .is-mask .ensures) ∙
+      not-false _ (c .if1 .left)
+
 given-natural-requires : tie.Need-given-natural-requires
 given-natural-requires c κs = search needs
 
@@ -35,14 +45,10 @@ add-if2 c = search needs
 
 returns-2 : tie.Need-returns-2
 returns-2 c =
-    let k = c .before .before .is-mask in
-    let n = c .before .before .before .given-natural in
-    let a = c .before .before .before .before .args in
-    let ws = map bitsOf (a .commands .now) in (
-      sym (mask-takes ws (a .at) (ap isMask (sym (n .ensures .0)) ∙ sym (k .ensures) ∙ not-false _ (c .before .if1 .left)) ∙
-          List·getD-eq-default ws 0 (omega (arith, length-map (a .commands .now) bitsOf))),
-      omega arith,
-    )
+    let a = begin (c .before) .args in
+    let ws = map bitsOf (a .commands .now) in
+    let past = List·getD-eq-default ws 0 {n = a .at + 1} (omega (arith, length-map (a .commands .now) bitsOf)) in
+    (sym (mask-takes ws (a .at) (mask (c .before)) ∙ past), omega arith)
 
 add-given-natural : tie.Need-add-given-natural
 add-given-natural c = search needs
@@ -52,15 +58,10 @@ given-natural-requires-2 c κs = search needs
 
 returns-3 : tie.Need-returns-3
 returns-3 c =
-    let l = c .before in
-    let k = l .before .before .is-mask in
-    let n = l .before .before .before .given-natural in
-    let a = l .before .before .before .before .args in
-    let ws = map bitsOf (a .commands .now) in (
-      c .given-natural2 .ensures .0 ∙
-          sym (mask-takes ws (a .at) (ap isMask (sym (n .ensures .0)) ∙ sym (k .ensures) ∙ not-false _ (l .before .if1 .left))),
-      c .given-natural2 .ensures .1,
-    )
+    let l = c .before .before in
+    let a = begin l .args in
+    let takes = mask-takes (map bitsOf (a .commands .now)) (a .at) (mask l) in
+    (c .given-natural2 .ensures .0 ∙ sym takes, c .given-natural2 .ensures .1)
 
 pub bytes-taken-spec : {M : Type 1} → statement M
 bytes-taken-spec =

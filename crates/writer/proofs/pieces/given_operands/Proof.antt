@@ -19,7 +19,8 @@ operands-requires c κs = search needs
 returns-2 : tie.Need-returns-2
 unfolding givenOperands
 returns-2 c =
-    (rw (sym (c .before .before .is-mask .ensures) ∙ c .before .if1 .left) (c .operands .ensures .0), c .operands .ensures .1)
+    let e = sym (c .before .before .is-mask .ensures) ∙ c .before .if1 .left in
+    (rw e (c .operands .ensures .0), c .operands .ensures .1)
 
 pub given-operands-spec : {M : Type 1} → statement M
 given-operands-spec = tie.close (tie.spec is-mask-requires returns operands-requires returns-2)

@@ -106,8 +106,8 @@ returns-2 c =
     let t = e .before .before in
     let l = t .before .loop .left in
     found-long (words t) (at t) (there t) l (sym (e .before .bad-piece .ensures) ∙ e .if1 .left)
-    (ap (λ (n : ℕ). tooLong n l) (sym (c .before .before .bytes-taken .ensures .0)) ∙ sym (c .before .too-long .ensures) ∙
-    c .if2 .taken) ∙
+    (ap (λ (n : ℕ). tooLong n l) (sym (c .before .before .bytes-taken .ensures .0)) ∙
+    sym (c .before .too-long .ensures) ∙ c .if2 .taken) ∙
     sym (t .before .loop .inv .0)
 
 sub-left : tie.Need-sub-left Inv-loop μ-loop

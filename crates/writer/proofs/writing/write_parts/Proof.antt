@@ -75,8 +75,13 @@ cast-store-header-3 c = omega (arith, short (c .before))
 
 store-header-requires : tie.Need-store-header-requires
 store-header-requires c κs =
-    let w = c .before in
-    (omega (arith, room w), (omega (arith, w .before .count-params .ensures .1), (omega (arith, short w), omega (arith, short w))))
+    let w = c .before in (
+      omega (arith, room w),
+      (
+        omega (arith, w .before .count-params .ensures .1),
+        (omega (arith, short w), omega (arith, short w)),
+      ),
+    )
 
 store-params-requires : tie.Need-store-params-requires
 store-params-requires c κs =
@@ -123,7 +128,8 @@ returns c =
     let n = script-length (asked w) in (
       omega (arith, params w, words w, n),
       parts-over (asked w) (a .script .now) (begin w .pre .there)
-          at (at + 4 * padded (length (a .masks .now)) - at) (rw (params w, words w) at (h .store-header .ensures)) (p .store-params .ensures)
+          at (at + 4 * padded (length (a .masks .now)) - at) (rw (params w, words w) at (h .store-header .ensures))
+          (p .store-params .ensures)
           (rw (params w) at (k .store-commands .ensures)) (m .store-masks .ensures) (omega (arith, params w, words w))
           (omega arith),
     )
