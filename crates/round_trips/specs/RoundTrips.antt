@@ -4,7 +4,7 @@ use mathlib.Core.Path.{_≡_}
 use mathlib.Core.List.{List, [], _∷_, _++_}
 use Prim.Native.Nat.{ℕ, _+_, _-_, _<_}
 use lib.IntN.{ℤ, pos}
-use lib.ListN.{length, getD, replicate}
+use lib.ListN.{length, take, getD, replicate}
 use mir.Syntax.{w32}
 use mir.Val.{SFits}
 use Rattle.fixed.specs.declared.Fixed.{Fixed}
@@ -78,6 +78,11 @@ kept g = given (g .scale) (keptParams (g .params)) (g .commands) (g .masks)
 pub record ReadsBack (g : Given) : Type 0 where
   pub accepted : firstOf (checkRows (scriptFor g)) ≡ Ok
   pub same : givenIn (scriptFor g) ≡ kept g
+
+-- so, of every outcome that the writer's contract allows, do the bytes that it says are written
+pub record WrittenBack (g : Given) (bytes : ℕ) (left : List ℕ) : Type 0 where
+  pub accepted : firstOf (checkRows (take bytes left)) ≡ Ok
+  pub same : givenIn (take bytes left) ≡ kept g
 
 -- ---- a script written again
 -- where a mask lies among the mask bytes
