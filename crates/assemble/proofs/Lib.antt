@@ -1,0 +1,4 @@
+pub mod Reading
+pub mod Answering
+pub mod Output
+pub mod Unique
