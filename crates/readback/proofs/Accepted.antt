@@ -1,8 +1,8 @@
 -- A script that passes all tests has whole commands. Assumes nothing.
 use mathlib.Core.Path.{_≡_, refl}
 use mathlib.Core.Bool.{Bool, true, false, cond, true≢false}
-use mathlib.Core.List.{List}
-use Prim.Native.Nat.{ℕ, zero, suc, _+_, _-_, _*_, _≤_}
+use mathlib.Core.List.{List, _∷_}
+use Prim.Native.Nat.{ℕ, zero, suc, _+_, _-_, _*_, _≤_, _<_}
 use native.Mathlib.Omega.{arith}
 use lib.Dec.{ltb}
 use lib.ListN.{drop}
@@ -16,14 +16,14 @@ use Rattle.commands.specs.declared.reading.Marking.the-variants.{Bad}
 use Rattle.commands.specs.Commands.{operandsOf, nextAt, commandOf, readAt, commandsFrom}
 use Rattle.commands.specs.Faults.{isBad, commandRows}
 use Rattle.commands.proofs.Laws.{faultless, from-start}
-use Rattle.writer.specs.Pieces.{Whole}
+use Rattle.writer.specs.Pieces.{Piece, Whole}
 use Rattle.script.specs.Script.{checkRows}
 use Rattle.script.proofs.Passed.{passed}
-use Rattle.readback.specs.ReadBack.{WholeCommands}
+use Rattle.readback.specs.ReadBack.{scriptPiece, WholeCommands}
 use Rattle.readback.proofs.Shortened.{piecesLeft, all-left, none-left, first-left, words-length}
 
 -- a word of the rest of a script
-raw-drop : (s : List ℕ) (b i : ℕ) → rawAt (drop (4 * b) s) i ≡ rawAt s (b + i)
+pub raw-drop : (s : List ℕ) (b i : ℕ) → rawAt (drop (4 * b) s) i ≡ rawAt s (b + i)
 unfolding rawAt
 raw-drop s b i =
     let e : 4 * b + 4 * i ≡ 4 * (b + i) = omega arith in
@@ -32,50 +32,76 @@ raw-drop s b i =
     let e3 : 4 * b + (4 * i + 3) ≡ 4 * (b + i) + 3 = omega arith in
     simp (getD-drop, e, e1, e2, e3)
 
--- a command that is not bad has all its operands
-operands-there : (w : ℕ → ℕ) (n i : ℕ) → isBad (readAt w n i .command) ≡ false → nextAt w i ≤ n
+-- a command that is not bad has all its operands, and is not made bad
+pub read-fine : (w : ℕ → ℕ) (n i : ℕ) → isBad (readAt w n i .command) ≡ false →
+    (nextAt w i ≤ n) × (readAt w n i .command ≡ commandOf w i (w i))
 unfolding readAt
-operands-there w n i e = ltb-false n (nextAt w i) (by (ltb n (nextAt w i)) e)
+read-fine w n i e = by (ltb n (nextAt w i)) refl e
   where
-    by : (b : Bool) → isBad (cond b (Mark Bad) (commandOf w i (w i))) ≡ false → b ≡ false
-    by true e = absurd (true≢false e)
-    by false e = refl
+    by : (b : Bool) → ltb n (nextAt w i) ≡ b → isBad (cond b (Mark Bad) (commandOf w i (w i))) ≡ false →
+        (nextAt w i ≤ n) × (cond b (Mark Bad) (commandOf w i (w i)) ≡ commandOf w i (w i))
+    by true f e = absurd (true≢false e)
+    by false f e = (ltb-false n (nextAt w i) f, refl)
 
--- commands without a fault are whole pieces, read from words v that are those of w from word b on
-module _ (w v : ℕ → ℕ) (b n bytes : ℕ) (same : (i : ℕ) → v i ≡ w (b + i)) where
-  -- from word i on
+-- what holds behind the last of n words, and at a command that is not bad if behind it, holds at
+-- commands without a fault
+module _ (b : ℕ) (w : ℕ → ℕ) (n bytes : ℕ) (P : ℕ → Type 0) (last : (i : ℕ) → n ≤ i → P i)
+    (one : (i : ℕ) → i < n → isBad (readAt w n i .command) ≡ false → P (nextAt w i) → P i) where
   abbrev Faultless : ℕ → Type 0
-  Faultless i = firstOf (commandRows bytes (commandsFrom (n - i) b v n i)) ≡ Ok
-
-  abbrev WholeLeft : ℕ → Type 0
-  WholeLeft i = Whole operandsOf (piecesLeft w b n i)
+  Faultless i = firstOf (commandRows bytes (commandsFrom (n - i) b w n i)) ≡ Ok
 
   -- by at most f of them
-  whole-from : (f i : ℕ) → n - i ≤ f → Faultless i → WholeLeft i
-  whole-from zero i h e = rw (none-left w b n i (omega arith)) tt
-  whole-from (suc f) i h e = by (ltb i n) refl (λ j k g. whole-from f j k g)
+  along : (f i : ℕ) → n - i ≤ f → Faultless i → P i
+  along zero i h e = last i (omega arith)
+  along (suc f) i h e = by (ltb i n) refl (λ l g. along f (nextAt w i) l g)
     where
-      by : (t : Bool) → ltb i n ≡ t → ((j : ℕ) → n - j ≤ f → Faultless j → WholeLeft j) → WholeLeft i
-      by true l again =
-          let p = faultless b v n bytes i (ltb-true i n l) e in
-          let t : i + 1 + operandsOf (w (b + i)) ≤ n = rw (same i) at (operands-there v n i (p .0)) in
-          let q : Faultless (i + 1 + operandsOf (w (b + i))) = rw (same i) at (p .1 .1) in
-          rw (first-left w b n i t)
-          (words-length w (b + i + 1) (operandsOf (w (b + i))), again (i + 1 + operandsOf (w (b + i))) (omega arith) q)
-      by false l again = rw (none-left w b n i (ltb-false i n l)) tt
+      by : (t : Bool) → ltb i n ≡ t → (n - nextAt w i ≤ f → Faultless (nextAt w i) → P (nextAt w i)) → P i
+      by true t again =
+          let l = ltb-true i n t in
+          let p = faultless b w n bytes i l e in
+          one i l (p .0) (again (omega arith) (p .1 .1))
+      by false t again = last i (ltb-false i n t)
 
--- so are those of a script that passes all tests, where its words say that they are
-pub whole-commands : (s : List ℕ) → firstOf (checkRows s) ≡ Ok → {first n : ℕ} → first ≡ rawAt s 4 → n ≡ rawAt s 5 →
-    WholeCommands s first n
-whole-commands s e {first} {n} f g =
-    let p = passed s e in
-    let v = rawAt (drop (4 * rawAt s 4) s) in
-    let q = rw (from-start (rawAt s 4) v (rawAt s 5)) at (p .commands) in
-    let w = whole-from (rawAt s) v (rawAt s 4) (rawAt s 5) (rawAt s 7) (raw-drop s (rawAt s 4)) (rawAt s 5) 0
-    (omega arith) q in
-    rw (f, g)
-    (record {
-      there = p .fine .ends;
-      short = p .fine .short;
-      whole = rw (all-left (rawAt s) (rawAt s 4) (rawAt s 5)) at w;
-    })
+-- ---- a script that passes all tests
+module _ (s : List ℕ) (e : firstOf (checkRows s) ≡ Ok) where
+  -- its words from the first command on
+  abbrev pub behind : ℕ → ℕ
+  behind = rawAt (drop (4 * rawAt s 4) s)
+
+  -- what holds so at each command holds at the first
+  pub along-commands : (P : ℕ → Type 0) → ((i : ℕ) → rawAt s 5 ≤ i → P i) →
+      ((i : ℕ) → i < rawAt s 5 → isBad (readAt behind (rawAt s 5) i .command) ≡ false → P (nextAt behind i) → P i) → P 0
+  along-commands P last one =
+      let n = rawAt s 5 in
+      along (rawAt s 4) behind n (rawAt s 7) P last one n 0 (omega arith)
+      (rw (from-start (rawAt s 4) behind n) at (passed s e .commands))
+
+  -- its pieces from word i of the commands on
+  abbrev pub pieces : ℕ → List Piece
+  pieces i = piecesLeft (rawAt s) (rawAt s 4) (rawAt s 5) i
+
+  -- the first of them
+  pub next-pieces : (i : ℕ) → nextAt behind i ≤ rawAt s 5 →
+      pieces i ≡ scriptPiece (rawAt s) (rawAt s 4 + i) ∷ pieces (nextAt behind i)
+  next-pieces i h =
+      let d = raw-drop s (rawAt s 4) i in
+      rw d (first-left (rawAt s) (rawAt s 4) (rawAt s 5) i (rw d at h))
+
+  -- none is cut off
+  whole : Whole operandsOf (pieces 0)
+  whole =
+      along-commands (λ i. Whole operandsOf (pieces i))
+      (λ i h. rw (none-left (rawAt s) (rawAt s 4) (rawAt s 5) i h) tt)
+      (λ i h f w. rw (next-pieces i (read-fine behind (rawAt s 5) i f .0))
+      (words-length (rawAt s) (rawAt s 4 + i + 1) (operandsOf (rawAt s (rawAt s 4 + i))), w))
+
+  -- where its words say that they are
+  pub whole-commands : {first n : ℕ} → first ≡ rawAt s 4 → n ≡ rawAt s 5 → WholeCommands s first n
+  whole-commands {first} {n} f g =
+      let p = passed s e .fine in
+      rw (f, g)
+      (record {
+        there = p .ends;
+        short = p .short;
+        whole = rw (all-left (rawAt s) (rawAt s 4) (rawAt s 5)) at whole;
+      })

@@ -1,17 +1,15 @@
 -- Laws of the pieces of a script from a word on, and of their words without the starts of masks.
 -- Assumes nothing.
 use mathlib.Core.Path.{_≡_, refl, ap, _∙_}
-use mathlib.Core.Bool.{Bool, true, false, cond, _||_}
+use mathlib.Core.Bool.{Bool, true, false, cond}
 use mathlib.Core.List.{List, [], _∷_, _++_}
 use Prim.Native.Nat.{ℕ, zero, suc, _+_, _-_, _≤_, _<_}
 use native.Mathlib.Omega.{arith}
-use lib.Dec.{eqb}
 use lib.ListN.{length, take, drop, length-append, length-take}
 use lib.Seq.{take-at, drop-at}
-use borrow.Author.Tests.{eqb-true}
 use Rattle.commands.specs.Commands.{operandsOf}
 use Rattle.writer.specs.Pieces.{Piece, piecesOf, pieceWords, joined, Whole, isMask, givenOperands, unstarted}
-use Rattle.writer.proofs.Cutting.{no-pieces, first-piece}
+use Rattle.writer.proofs.Cutting.{no-pieces, first-piece, mask-two}
 use Rattle.readback.specs.ReadBack.{wordsFrom, shortened, scriptPiece}
 
 module _ (w : ℕ → ℕ) where
@@ -46,7 +44,7 @@ module _ (w : ℕ → ℕ) where
       ap (wordsFrom w i) e
 
   -- some of them, and those behind
-  words-split : (i m n : ℕ) → wordsFrom w i (m + n) ≡ wordsFrom w i m ++ wordsFrom w (i + m) n
+  pub words-split : (i m n : ℕ) → wordsFrom w i (m + n) ≡ wordsFrom w i m ++ wordsFrom w (i + m) n
   unfolding wordsFrom
   words-split i zero n =
       let e : 0 + n ≡ n = omega arith in
@@ -135,22 +133,13 @@ module _ (w : ℕ → ℕ) (first n : ℕ) where
     whole-left h g = (rw (first-left (operands-left h g)) at g) .1
 
 -- ---- a piece without its start
--- a mask has two operands
-mask-operands : (k : ℕ) → isMask k ≡ true → operandsOf k ≡ 2
-unfolding operandsOf
-mask-operands k e = by (eqb k 2) refl e
-  where
-    by : (b : Bool) → eqb k 2 ≡ b → (b || eqb k 3) ≡ true → operandsOf k ≡ 2
-    by true f g = rw (eqb-true k 2 f)
-    by false f g = rw (eqb-true k 3 g)
-
--- and is given with fewer than it has
+-- a mask is given with fewer operands than it has
 pub given-fewer : (k : ℕ) → givenOperands k ≤ operandsOf k
 unfolding givenOperands
 given-fewer k = by (isMask k) refl
   where
     by : (b : Bool) → isMask k ≡ b → cond b 1 (operandsOf k) ≤ operandsOf k
-    by true e = omega (arith, mask-operands k e)
+    by true e = omega (arith, mask-two k e)
     by false e = omega arith
 
 -- a piece without its start is its kind and the last of its operands
@@ -164,7 +153,7 @@ unstarted-words w i = ap (λ (l : List ℕ). w i ∷ l) (by (isMask (w i)) refl)
         cond b (drop 1 (wordsFrom w (i + 1) (operandsOf (w i)))) (wordsFrom w (i + 1) (operandsOf (w i))) ≡
         wordsFrom w (i + 1 + operandsOf (w i) - cond b 1 (operandsOf (w i))) (cond b 1 (operandsOf (w i)))
     by true e =
-        let m = mask-operands (w i) e in
+        let m = mask-two (w i) e in
         let f : i + 1 + 1 ≡ i + 1 + operandsOf (w i) - 1 = omega arith in
         let g : operandsOf (w i) - 1 ≡ 1 = omega arith in
         words-left w (i + 1) 1 (operandsOf (w i)) (omega arith) ∙

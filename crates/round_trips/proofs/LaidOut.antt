@@ -1,33 +1,45 @@
--- The layout of a script that the writer does not refuse: how long it is, and its words and mask
--- bytes read from its bytes. Assumes nothing.
+-- The layout of a script: the words and the mask bytes of one that the writer does not refuse, read
+-- from its bytes, and what is written of one that the reader accepts. Assumes nothing.
 use mathlib.Core.Path.{_≡_, refl, sym, ap, _∙_}
+use mathlib.Core.Bool.{Bool, true, false, _&&_, true≢false}
 use mathlib.Core.List.{List, [], _∷_, _++_, map}
-use Prim.Native.Nat.{ℕ, _+_, _-_, _*_, _<_, _^_}
+use Prim.Native.Nat.{ℕ, _+_, _-_, _*_, _/_, _%_, _≤_, _<_, _^_}
 use native.Mathlib.Omega.{arith}
-use lib.IntN.{ℤ}
-use lib.ListN.{length, drop, replicate, length-append, length-replicate}
+use lib.Dec.{eqb}
+use lib.ListN.{length, take, drop, replicate, length-drop, take-append-drop}
 use lib.Seq.{drop-at, drop-drop}
+use borrow.Author.Tests.{eqb-true, not-false}
 use Rattle.fixed.specs.Integers.{bitsOf}
-use Rattle.fixed.proofs.Bits.{low-lt}
-use Rattle.words.specs.Words.{rawAt}
+use Rattle.words.specs.declared.answer.Answer.the-variants.{Ok}
+use Rattle.words.specs.Words.{rawAt, negative}
 use Rattle.words.specs.Bytes.{bytesOf}
+use Rattle.words.specs.Answers.{firstOf}
+use Rattle.words.proofs.Rows.{none-holds}
 use Rattle.words.proofs.Laid.{bytes-length}
-use Rattle.header.specs.Header.{padded}
+use Rattle.header.specs.Header.{differs, outside, allZero, padded, lengthBad, headerRows}
+use Rattle.header.specs.Params.{pairsIn, paramRows}
+use Rattle.header.proofs.Fine.{header-refusing, params-refusing}
+use Rattle.header.proofs.Tests.{both-false, alike}
+use Rattle.script.specs.Script.{checkRows}
+use Rattle.script.proofs.Passed.{Passed, passed}
 use Rattle.writer.specs.Pieces.{givenOperands}
 use Rattle.writer.specs.Given.{Given, numberWord, paramWords, piecesIn, commandWords, headerWords, scriptWords}
 use Rattle.writer.specs.Given.{paddedBytes, scriptFor}
 use Rattle.writer.proofs.Cutting.{joined-pieces}
-use Rattle.round_trips.specs.RoundTrips.{HeldGiven}
-use Rattle.round_trips.proofs.Bits.{Small, small-both, Holds, holds-front, holds-back, words-there, behind-words}
-use Rattle.round_trips.proofs.NoneHolds.{Unrefused}
-use Rattle.round_trips.proofs.Parameters.{number-small, params-small}
+use Rattle.writer.proofs.Laying.{signed-bits}
+use Rattle.writer.proofs.Sizes.{words-length, script-length}
+use Rattle.writer.proofs.Answering.{Unrefused}
+use Rattle.readback.specs.ReadBack.{wordsFrom, givenIn}
+use Rattle.readback.proofs.Accepted.{raw-drop}
+use Rattle.readback.proofs.Rooms.{masks-length}
+use Rattle.readback.proofs.Shortened.{words-length as from-length, words-split}
+use Rattle.round_trips.specs.RoundTrips.{Bytes}
+use Rattle.round_trips.proofs.WordBytes.{Small, small-both, bits-small, Holds, holds-front, holds-back}
+use Rattle.round_trips.proofs.WordBytes.{holds-moved, words-there, word-small, bytes-from}
+use Rattle.round_trips.proofs.Parameters.{number-small, params-small, param-words}
 use Rattle.round_trips.proofs.Starts.{starts-small}
 
--- the bits of numbers are below 2^32
-bits-small : (zs : List ℤ) → Small (map bitsOf zs)
-bits-small [] = tt
-bits-small (z ∷ zs) = (low-lt 32 z, bits-small zs)
-
+-- ---- a script that the writer does not refuse
 -- how many words the parameters and the commands take, and all words
 abbrev pub paramCount : Given → ℕ
 paramCount g = length (paramWords (g .params))
@@ -42,27 +54,6 @@ wordCount g = 8 + paramCount g + commandCount g
 abbrev pub zerosBehind : ℕ → List ℕ
 zerosBehind n = replicate (4 * padded n - n) 0
 
--- mask bytes take whole words
-padded-length : (ms : List ℕ) → length (paddedBytes ms) ≡ 4 * padded (length ms)
-unfolding paddedBytes
-padded-length ms =
-    let n = length ms in
-    omega (arith, length-append ms (zerosBehind n), length-replicate {A = ℕ} (4 * padded n - n) 0)
-
--- the script is as long as its words and its mask bytes take
-pub script-length : (g : Given) →
-    length (scriptFor g) ≡ 4 * wordCount g + 4 * padded (length (g .masks))
-unfolding scriptFor scriptWords
-script-length g =
-    omega (
-      arith,
-      length-append (bytesOf (scriptWords g)) (paddedBytes (g .masks)),
-      bytes-length (scriptWords g),
-      length-append (paramWords (g .params)) (commandWords (g .commands)),
-      padded-length (g .masks),
-    )
-
--- ---- its words
 -- the words of the header, and where the others stand
 pub record LaidOut (g : Given) (w : ℕ → ℕ) : Type 0 where
   pub version : w 0 ≡ 1
@@ -76,7 +67,7 @@ pub record LaidOut (g : Given) (w : ℕ → ℕ) : Type 0 where
   pub paramsThere : Holds w 8 (paramWords (g .params))
   pub commandsThere : Holds w (8 + paramCount g) (commandWords (g .commands))
 
-module _ (g : Given) (h : HeldGiven g) (c : Unrefused g) where
+module _ (g : Given) (c : Unrefused g) where
   -- the command words are below 2^32
   commands-small : Small (commandWords (g .commands))
   unfolding commandWords
@@ -98,7 +89,7 @@ module _ (g : Given) (h : HeldGiven g) (c : Unrefused g) where
   -- so they come out of the script's bytes
   words-read : Holds (rawAt (scriptFor g)) 0 (scriptWords g)
   unfolding scriptFor
-  words-read = words-there (scriptWords g) (paddedBytes (g .masks)) words-small
+  words-read = words-there (scriptFor g) 0 (scriptWords g) (paddedBytes (g .masks)) refl words-small
 
   -- each in its place
   pub laid-out : LaidOut g (rawAt (scriptFor g))
@@ -124,21 +115,18 @@ module _ (g : Given) (h : HeldGiven g) (c : Unrefused g) where
 
   -- the command words, from their offset on
   pub commands-read : Holds (rawAt (drop (4 * (8 + paramCount g)) (scriptFor g))) 0 (commandWords (g .commands))
-  unfolding scriptFor scriptWords
   commands-read =
-      let header = headerWords (g .scale) (paramCount g) (commandCount g) (length (g .masks)) in
-      rw (behind-words (header ++ paramWords (g .params)) (commandWords (g .commands)) (paddedBytes (g .masks))
-      (8 + paramCount g) (omega arith))
-      (words-there (commandWords (g .commands)) (paddedBytes (g .masks)) commands-small)
+      let at = 8 + paramCount g in
+      let z : at + 0 ≡ at = omega arith in
+      holds-moved _ (rawAt (scriptFor g)) at (raw-drop (scriptFor g) at) 0 (commandWords (g .commands))
+      (rw z (laid-out .commandsThere))
 
--- ---- its mask bytes
--- they stand behind the words
+-- the mask bytes stand behind the words
 pub masks-there : (g : Given) → drop (4 * wordCount g) (scriptFor g) ≡ paddedBytes (g .masks)
-unfolding scriptFor scriptWords
+unfolding scriptFor
 masks-there g =
     drop-at (bytesOf (scriptWords g)) (paddedBytes (g .masks)) (4 * wordCount g)
-    (bytes-length (scriptWords g) ∙
-    omega (arith, length-append (paramWords (g .params)) (commandWords (g .commands))))
+    (omega (arith, bytes-length (scriptWords g), words-length g))
 
 -- and zeros behind them
 pub zeros-there : (g : Given) →
@@ -148,3 +136,104 @@ zeros-there g =
     sym (drop-drop (length (g .masks)) (4 * wordCount g) (scriptFor g)) ∙
     ap (drop (length (g .masks))) (masks-there g) ∙
     drop-at (g .masks) (zerosBehind (length (g .masks))) (length (g .masks)) refl
+
+-- ---- a script that the reader accepts
+-- the rest of its header, and what its mask bytes end with
+pub record Layout (s : List ℕ) : Type 0 where
+  pub version : rawAt s 0 ≡ 1
+  pub offset : rawAt s 2 ≡ 8
+  pub params : rawAt s 3 ≡ 8 + 2 * pairsIn (rawAt s)
+  pub all : length s ≡ 4 * (rawAt s 6 + padded (rawAt s 7))
+  pub zeros : allZero (drop (4 * rawAt s 6 + rawAt s 7) s) ≡ true
+
+-- a length that is fine is one in fours
+in-fours : (n : ℕ) → lengthBad n ≡ false → n % 4 ≡ 0
+unfolding lengthBad
+in-fours n e = alike (n % 4) 0 (both-false (outside 32 65536 n) (differs (n % 4) 0) e .1)
+
+-- a script that passes all tests is laid out so
+pub layout : (s : List ℕ) → Passed s → Layout s
+unfolding headerRows paramRows
+layout s p =
+    let f = none-holds Ok (headerRows s) (header-refusing s) (p .header) in
+    let g = none-holds Ok (paramRows (rawAt s)) (params-refusing s) (p .params) in
+    let n = in-fours (length s) (f 0) in
+    let b = both-false (negative (rawAt s 7)) (differs (rawAt s 6 + padded (rawAt s 7)) (length s / 4)) (f 7) in
+    let m = alike (rawAt s 6 + padded (rawAt s 7)) (length s / 4) (b .1) in
+    record {
+      version = alike (rawAt s 0) 1 (f 1);
+      offset = alike (rawAt s 2) 8 (f 2);
+      params = alike (rawAt s 3) (8 + 2 * pairsIn (rawAt s)) (g 5);
+      all = omega arith;
+      zeros = not-false (allZero (drop (4 * rawAt s 6 + rawAt s 7) s)) (f 8);
+    }
+
+-- bytes that are all zero are so many zeros
+zero-bytes : (l : List ℕ) → allZero l ≡ true → l ≡ replicate (length l) 0
+unfolding allZero
+zero-bytes [] e = refl
+zero-bytes (b ∷ l) e = go (eqb b 0) refl e (λ q. zero-bytes l q)
+  where
+    go : (t : Bool) → eqb b 0 ≡ t → (t && allZero l) ≡ true → (allZero l ≡ true → l ≡ replicate (length l) 0) →
+        b ∷ l ≡ 0 ∷ replicate (length l) 0
+    go true f e h = let z = eqb-true b 0 f in let k = h e in cc
+    go false f e h = absurd (true≢false (sym e))
+
+module _ (s : List ℕ) (held : Bytes s) (e : firstOf (checkRows s) ≡ Ok) where
+  abbrev w : ℕ → ℕ
+  w = rawAt s
+
+  -- the mask bytes with zeros up to a whole word are the end of the script
+  masks-padded : paddedBytes (givenIn s .masks) ≡ drop (4 * w 6) s
+  unfolding paddedBytes givenIn
+  masks-padded =
+      let p = passed s e in
+      let m = 4 * w 6 in
+      let n = w 7 in
+      let f = p .fine .bytes in
+      let k : length (drop (m + n) s) ≡ 4 * padded n - n = omega (arith, length-drop (m + n) s, layout s p .all) in
+      rw (masks-length s e)
+      (ap (λ (r : List ℕ). take n (drop m s) ++ r)
+      (sym (drop-drop n m s ∙ zero-bytes (drop (m + n) s) (layout s p .zeros) ∙ ap (λ (x : ℕ). replicate x 0) k)) ∙
+      take-append-drop n (drop m s))
+
+  -- the header is words 0 to 7
+  header-words : headerWords (givenIn s .scale) (w 3) (w 5) (w 7) ≡ wordsFrom w 0 8
+  unfolding wordsFrom givenIn
+  header-words =
+      let p = passed s e in
+      let l = layout s p in
+      rw (l .version, signed-bits (w 1) (word-small s held 1), l .offset, p .fine .masks, p .fine .commands)
+
+  -- the parameters end where the commands start
+  params-end : paramWords (givenIn s .params) ≡ wordsFrom w 8 (w 3)
+  unfolding givenIn
+  params-end =
+      param-words w (word-small s held) ∙ ap (λ (n : ℕ). wordsFrom w 8 n) (sym (layout s (passed s e) .params))
+
+  -- so they have as many words as word 3 says
+  pub params-many : length (paramWords (givenIn s .params)) ≡ w 3
+  params-many = ap length params-end ∙ from-length w 8 (w 3)
+
+  -- header, parameters and commands are all words before the mask bytes
+  all-words : wordsFrom w 0 8 ++ (wordsFrom w 8 (w 3) ++ wordsFrom w (w 4) (w 5)) ≡ wordsFrom w 0 (w 6)
+  all-words =
+      let f = passed s e .fine in
+      let n : 8 + (w 3 + w 5) ≡ w 6 = omega (arith, f .commands, f .masks) in
+      rw (f .commands, sym (words-split w 8 (w 3) (w 5))) (sym (words-split w 0 8 (w 3 + w 5)) ∙ ap (wordsFrom w 0) n)
+
+  -- where the command words that are written are its own, so are all words
+  words-again : commandWords (givenIn s .commands) ≡ wordsFrom w (w 4) (w 5) →
+      scriptWords (givenIn s) ≡ wordsFrom w 0 (w 6)
+  unfolding scriptWords
+  words-again c =
+      rw (params-end, c, from-length w 8 (w 3), from-length w (w 4) (w 5), masks-length s e)
+      (ap (λ (l : List ℕ). l ++ (wordsFrom w 8 (w 3) ++ wordsFrom w (w 4) (w 5))) header-words ∙ all-words)
+
+  -- and all bytes
+  pub script-again : commandWords (givenIn s .commands) ≡ wordsFrom w (w 4) (w 5) → scriptFor (givenIn s) ≡ s
+  unfolding scriptFor
+  script-again c =
+      let f = passed s e .fine in
+      let n : 4 * (0 + w 6) ≤ length s = omega (arith, f .ends, f .masks) in
+      rw (words-again c, masks-padded, bytes-from s held 0 (w 6) n) (take-append-drop (4 * w 6) s)

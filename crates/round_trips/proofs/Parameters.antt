@@ -1,10 +1,11 @@
--- Parameters come back out of their words, but for pairs past a count. Assumes nothing.
+-- Parameters come back out of their words, but for pairs past a count, and words out of the parameters
+-- that are read from them. Assumes nothing.
 use mathlib.Core.Path.{_≡_, refl, subst, sym, ap, _∙_}
 use mathlib.Core.List.{List, [], _∷_, _++_}
-use Prim.Native.Nat.{ℕ, zero, suc, _+_, _*_, _≤_, _<_, _^_}
+use Prim.Native.Nat.{ℕ, zero, suc, _+_, _-_, _*_, _≤_, _<_, _^_}
 use native.Mathlib.Omega.{arith}
-use lib.ListN.{length, take, getD, length-append}
-use lib.Seq.{length-take-le}
+use lib.ListN.{length, take, getD, replicate}
+use lib.Seq.{take-at}
 use Rattle.fixed.specs.declared.Fixed.{Fixed}
 use Rattle.fixed.specs.Integers.{signed}
 use Rattle.fixed.specs.Fixed.{fromBits}
@@ -14,11 +15,14 @@ use Rattle.zones.specs.declared.blues.Blues.{Blues}
 use Rattle.zones.specs.declared.state.HintParams.{HintParams}
 use Rattle.zones.specs.Zones.{maxBlues, noBlue, listOf}
 use Rattle.words.specs.Words.{wordAt, numberAt}
-use Rattle.header.specs.Params.{pairsFrom, bluesAt, paramsOf}
+use Rattle.header.specs.Params.{pairsIn, pairsFrom, bluesAt, paramsOf}
 use Rattle.writer.specs.Given.{numberWord, pairWords, numberWords, paramWords}
 use Rattle.writer.specs.Refusals.{FineParams}
+use Rattle.writer.proofs.Laying.{Sevens, list-length, list-words, signed-bits}
+use Rattle.readback.specs.ReadBack.{wordsFrom}
+use Rattle.readback.proofs.Shortened.{words-split}
 use Rattle.round_trips.specs.RoundTrips.{Held, HeldBlues, HeldParams, keptBlues, keptParams}
-use Rattle.round_trips.proofs.Bits.{Small, small-both, Holds, holds-front, holds-back, number-back}
+use Rattle.round_trips.proofs.WordBytes.{Small, small-both, Holds, holds-front, holds-back, number-back}
 
 -- ---- one number
 -- its bits are below 2^32
@@ -50,13 +54,7 @@ held-take zero bs h = tt
 held-take (suc n) [] h = tt
 held-take (suc n) (b ∷ bs) h = (h .0, (h .1 .0, held-take n bs (h .1 .1)))
 
--- a pair has two words
-pairs-length : (bs : List Blue) → length (pairWords bs) ≡ 2 * length bs
-unfolding pairWords
-pairs-length [] = refl
-pairs-length (b ∷ bs) = omega (arith, pairs-length bs)
-
--- below 2^32
+-- their words are below 2^32
 pairs-small : (bs : List Blue) → Small (pairWords bs)
 unfolding pairWords
 pairs-small [] = tt
@@ -72,24 +70,14 @@ pairs-back w i (b ∷ bs) k h =
     let p = number-there w i (b .bottom) (k .0) (h .0) in
     let q = number-there w (i + 1) (b .top) (k .1 .0) (h .1 .0) in
     let r = pairs-back w (i + 2) bs (k .1 .1) (subst (λ (n : ℕ). Holds w n (pairWords bs)) j (h .1 .1)) in
-    ap (λ (x : Fixed). record { bottom = x; top = numberAt w (i + 1) } ∷ pairsFrom w (i + 2) (length bs)) p ∙
-    ap (λ (x : Fixed). record { bottom = b .bottom; top = x } ∷ pairsFrom w (i + 2) (length bs)) q ∙
-    ap (λ (l : List Blue). b ∷ l) r
+    rw (p, q, r)
 
 -- ---- a list of them
 -- the words of the pairs that count
 abbrev wordsOf : Blues → List ℕ
 wordsOf b = pairWords (listOf b)
 
--- as many as the count says
-list-length : (b : Blues) → HeldBlues b → b .count ≤ maxBlues → length (listOf b) ≡ b .count
-list-length b h l = length-take-le (b .count) (b .pairs) (omega (arith, h .seven))
-
--- with two words each
-words-length : (b : Blues) → HeldBlues b → b .count ≤ maxBlues → length (wordsOf b) ≡ 2 * b .count
-words-length b h l = pairs-length (listOf b) ∙ ap (λ (n : ℕ). 2 * n) (list-length b h l)
-
--- below 2^32, before others that are
+-- are below 2^32, before others that are
 list-small : (b : Blues) (ns : List ℕ) → Small ns → Small (wordsOf b ++ ns)
 list-small b ns s = small-both (wordsOf b) ns (pairs-small (listOf b)) s
 
@@ -101,7 +89,7 @@ blues-back w i n b h l e k =
     let held = held-pairs (b .pairs) (λ j m. h .bottoms j (omega (arith, h .seven)))
     (λ j m. h .tops j (omega (arith, h .seven))) in
     let all = pairs-back w i (listOf b) (held-take (b .count) (b .pairs) held) k in
-    let there : pairsFrom w i (b .count) ≡ listOf b = ap (pairsFrom w i) (sym (list-length b h l)) ∙ all in
+    let there : pairsFrom w i (b .count) ≡ listOf b = ap (pairsFrom w i) (sym (list-length b (h .seven) l)) ∙ all in
     rw (e, there)
 
 -- ---- all of them
@@ -125,27 +113,17 @@ params-small p c =
     (list-small (p .«other_blues») (s ++ t)
     (list-small (p .«family_blues») t (pairs-small (listOf (p .«family_other_blues»))))))
 
-module _ (p : HintParams) (h : HeldParams p) (c : FineParams p) where
-  -- 8 words, and two for each pair
-  pub params-length : length (paramWords p) ≡
-      8 + 2 * (p .blues .count + p .«other_blues» .count + p .«family_blues» .count + p .«family_other_blues» .count)
-  unfolding paramWords numberWords
-  params-length =
-      let q = wordsOf (p .blues) in
-      let r = wordsOf (p .«other_blues») in
-      let s = wordsOf (p .«family_blues») in
-      let t = wordsOf (p .«family_other_blues») in
-      omega (
-        arith,
-        length-append q (r ++ (s ++ t)),
-        length-append r (s ++ t),
-        length-append s t,
-        words-length (p .blues) (h .blues) (c .blues),
-        words-length (p .«other_blues») (h .otherBlues) (c .others),
-        words-length (p .«family_blues») (h .familyBlues) (c .family),
-        words-length (p .«family_other_blues») (h .familyOtherBlues) (c .familyOthers),
-      )
+-- every list has seven places
+pub sevens : (p : HintParams) → HeldParams p → Sevens p
+sevens p h =
+    record {
+      blues = h .blues .seven;
+      others = h .otherBlues .seven;
+      family = h .familyBlues .seven;
+      familyOthers = h .familyOtherBlues .seven;
+    }
 
+module _ (p : HintParams) (h : HeldParams p) (c : FineParams p) where
   -- where the words stand the parameters do
   pub params-back : (w : ℕ → ℕ) → Holds w 8 (paramWords p) → paramsOf w ≡ keptParams p
   unfolding paramWords numberWords paramsOf
@@ -158,11 +136,11 @@ module _ (p : HintParams) (h : HeldParams p) (c : FineParams p) where
       let at = 16 + 2 * w 12 in
       let there = counts .1 .1 .1 .1 in
       let behind = holds-back w 16 at q (r ++ (s ++ t))
-      (omega (arith, counts .0, words-length (p .blues) (h .blues) (c .blues))) there in
+      (omega (arith, counts .0, list-words (p .blues) (h .blues .seven) (c .blues))) there in
       let further = holds-back w at (at + 2 * w 13) r (s ++ t)
-      (omega (arith, counts .1 .0, words-length (p .«other_blues») (h .otherBlues) (c .others))) behind in
+      (omega (arith, counts .1 .0, list-words (p .«other_blues») (h .otherBlues .seven) (c .others))) behind in
       let last = holds-back w (at + 2 * w 13) (at + 2 * w 13 + 2 * w 14) s t
-      (omega (arith, counts .1 .1 .0, words-length (p .«family_blues») (h .familyBlues) (c .family))) further in
+      (omega (arith, counts .1 .1 .0, list-words (p .«family_blues») (h .familyBlues .seven) (c .family))) further in
       let a = number-there w 8 (p .«blue_scale») (h .blueScale) (k .0) in
       let b = number-there w 9 (p .«blue_shift») (h .blueShift) (k .1 .0) in
       let d = number-there w 10 (p .«blue_fuzz») (h .blueFuzz) (k .1 .1 .0) in
@@ -176,3 +154,59 @@ module _ (p : HintParams) (h : HeldParams p) (c : FineParams p) where
       let n = blues-back w (at + 2 * w 13 + 2 * w 14) (w 15) (p .«family_other_blues») (h .familyOtherBlues)
       (c .familyOthers) (counts .1 .1 .1 .0) last in
       cc (a, b, d, e, f, g, m, n)
+
+-- ---- words out of the parameters that are read from them
+module _ (w : ℕ → ℕ) (small : (j : ℕ) → w j < 2 ^ 32) where
+  -- n pairs are n
+  pairs-many : (i n : ℕ) → length (pairsFrom w i n) ≡ n
+  unfolding pairsFrom
+  pairs-many i zero = refl
+  pairs-many i (suc n) = ap suc (pairs-many (i + 2) n)
+
+  -- and have 2 n words, those that they were read from
+  pairs-words : (i n : ℕ) → pairWords (pairsFrom w i n) ≡ wordsFrom w i (2 * n)
+  unfolding pairsFrom pairWords wordsFrom
+  pairs-words i zero = refl
+  pairs-words i (suc n) =
+      let e : 2 * suc n ≡ suc (suc (2 * n)) = omega arith in
+      let d : i + 1 + 1 ≡ i + 2 = omega arith in
+      rw (e, signed-bits (w i) (small i), signed-bits (w (i + 1)) (small (i + 1)), pairs-words (i + 2) n, d)
+
+  -- so does a list of them, with zeros behind it
+  blues-words : (i n : ℕ) → pairWords (listOf (bluesAt w i n)) ≡ wordsFrom w i (2 * n)
+  unfolding bluesAt
+  blues-words i n =
+      ap pairWords (take-at (pairsFrom w i n) (replicate (maxBlues - n) noBlue) n (pairs-many i n)) ∙ pairs-words i n
+
+  -- the numbers and the counts
+  number-words : numberWords (paramsOf w) ≡ wordsFrom w 8 8
+  unfolding numberWords paramsOf bluesAt wordsFrom
+  number-words =
+      rw (
+        signed-bits (w 8) (small 8),
+        signed-bits (w 9) (small 9),
+        signed-bits (w 10) (small 10),
+        signed-bits (w 11) (small 11),
+      )
+
+  -- all parameters
+  pub param-words : paramWords (paramsOf w) ≡ wordsFrom w 8 (8 + 2 * pairsIn w)
+  unfolding paramWords paramsOf
+  param-words =
+      let a = 2 * w 12 in
+      let b = 2 * w 13 in
+      let c = 2 * w 14 in
+      let d = 2 * w 15 in
+      let e : 8 + 2 * pairsIn w ≡ 8 + (a + (b + (c + d))) = omega arith in
+      rw (
+        e,
+        words-split w 8 8 (a + (b + (c + d))),
+        words-split w 16 a (b + (c + d)),
+        words-split w (16 + a) b (c + d),
+        words-split w (16 + a + b) c d,
+        blues-words 16 (w 12),
+        blues-words (16 + a) (w 13),
+        blues-words (16 + a + b) (w 14),
+        blues-words (16 + a + b + c) (w 15),
+        number-words,
+      )

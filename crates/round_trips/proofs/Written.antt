@@ -2,15 +2,13 @@
 -- nothing.
 use mathlib.Core.Path.{_≡_, refl, ap, _∙_}
 use mathlib.Core.Bool.{true, false, not}
-use mathlib.Core.List.{List, [], _∷_, _++_, map}
-use Prim.Native.Nat.{ℕ, zero, suc, _+_, _-_, _*_, _/_, _%_, _≤_, _<_}
+use mathlib.Core.List.{List, _++_, map}
+use Prim.Native.Nat.{ℕ, zero, suc, _+_, _-_, _*_, _/_, _%_, _≤_}
 use native.Mathlib.Omega.{arith}
-use lib.IntN.{ℤ, pos}
-use lib.ListN.{length, take, drop, getD, replicate}
+use lib.IntN.{pos}
+use lib.ListN.{length, take, drop, replicate}
 use lib.Seq.{take-at}
 use borrow.Author.Tests.{le-ltb}
-use mir.Syntax.{w32}
-use mir.Val.{SFits}
 use Rattle.fixed.specs.declared.Fixed.{Fixed}
 use Rattle.fixed.specs.Integers.{bitsOf, signed}
 use Rattle.fixed.specs.Fixed.{fromBits, lessF}
@@ -28,15 +26,18 @@ use Rattle.writer.specs.Pieces.{Piece, piecesOf, joined, givenOperands, startsF
 use Rattle.writer.specs.Given.{Given, numberWords, paramWords, piecesIn, commandWords, paddedBytes, scriptFor}
 use Rattle.writer.specs.Refusals.{writeRefuses, writeAnswer}
 use Rattle.writer.proofs.Cutting.{joined-pieces, pieces-joined}
+use Rattle.writer.proofs.Faults.{NoneHold, none-both, none-answer}
+use Rattle.writer.proofs.Laying.{params-length}
+use Rattle.writer.proofs.Sizes.{script-length}
+use Rattle.writer.proofs.Answering.{Unrefused, unrefused}
 use Rattle.readback.specs.ReadBack.{scriptPieces, shortened, givenIn}
 use Rattle.round_trips.specs.RoundTrips.{HeldGiven, ReadsBack, kept}
-use Rattle.round_trips.proofs.Bits.{number-back, words-held}
-use Rattle.round_trips.proofs.NoneHolds.{NoneHold, none-both, none-answer, Unrefused, unrefused}
+use Rattle.round_trips.proofs.WordBytes.{numbers-back, words-held}
 use Rattle.round_trips.proofs.Starts.{given-whole, starts-whole, starts-back}
-use Rattle.round_trips.proofs.Accepted.{pieces-pass}
-use Rattle.round_trips.proofs.Parameters.{number-there, params-length, params-back}
+use Rattle.round_trips.proofs.Commands.{pieces-pass}
+use Rattle.round_trips.proofs.Parameters.{number-there, sevens, params-back}
 use Rattle.round_trips.proofs.LaidOut.{LaidOut, laid-out, paramCount, commandCount, wordCount, zerosBehind}
-use Rattle.round_trips.proofs.LaidOut.{script-length, commands-read, masks-there, zeros-there}
+use Rattle.round_trips.proofs.LaidOut.{commands-read, masks-there, zeros-there}
 
 -- ---- the tests
 -- from 32 to 65536 bytes, in fours
@@ -50,13 +51,18 @@ unfolding allZero
 zeros-zero zero = refl
 zeros-zero (suc n) = zeros-zero n
 
--- numbers of 32 bits come back out of their bits
-numbers-back : (zs : List ℤ) → ((i : ℕ) → i < length zs → SFits w32 (getD zs i (pos 0))) →
-    map signed (map bitsOf zs) ≡ zs
-numbers-back [] h = refl
-numbers-back (z ∷ zs) h =
-    rw (number-back z (h 0 (omega arith)))
-    (ap (λ (l : List ℤ). z ∷ l) (numbers-back zs (λ i l. h (suc i) (omega arith))))
+-- ---- its pieces are those given, with their starts
+pub pieces-back : (g : Given) → Unrefused g → scriptPieces (scriptFor g) ≡ startsFrom 0 (piecesIn (g .commands))
+unfolding commandWords
+pieces-back g c =
+    let ps = piecesIn (g .commands) in
+    let s = scriptFor g in
+    let there = laid-out g c in
+    let whole = given-whole 0 (length (g .masks)) (map bitsOf (g .commands)) (c .pieces) in
+    rw (there .commandsAt, there .commands)
+    (ap (piecesOf operandsOf) (words-held (rawAt s) (8 + paramCount g) (commandWords (g .commands))
+    (there .commandsThere)) ∙
+    pieces-joined operandsOf (startsFrom 0 ps) (starts-whole 0 ps whole))
 
 module _ (g : Given) (h : HeldGiven g) (c : Unrefused g) where
   abbrev s : List ℕ
@@ -64,12 +70,12 @@ module _ (g : Given) (h : HeldGiven g) (c : Unrefused g) where
 
   -- its words
   there : LaidOut g (rawAt s)
-  there = laid-out g h c
+  there = laid-out g c
 
   -- the parameters take 8 to 64 words
   few-params : (8 ≤ paramCount g) × (paramCount g ≤ 64)
   few-params =
-      let n = params-length (g .params) (h .params) (c .params) in
+      let n = params-length (g .params) (sevens (g .params) (h .params)) (c .params) in
       let f = c .params in
       (omega arith, omega arith)
 
@@ -107,7 +113,7 @@ module _ (g : Given) (h : HeldGiven g) (c : Unrefused g) where
   params-pass =
       let r = there in
       let k = r .paramsThere .1 .1 .1 .1 in
-      let n = params-length (g .params) (h .params) (c .params) in
+      let n = params-length (g .params) (sevens (g .params) (h .params)) (c .params) in
       let f = c .params in
       let scale = number-there (rawAt s) 1 (g .scale) (h .scale) (r .scale) in
       let scaled = ap (λ (x : Fixed). lessF x (fromBits (pos 1))) scale ∙ c .scaled in
@@ -130,7 +136,7 @@ module _ (g : Given) (h : HeldGiven g) (c : Unrefused g) where
       let ps = piecesIn (g .commands) in
       rw (there .masks, there .commandsAt, there .commands, from-start at part (commandCount g))
       (pieces-pass at n part (commandCount g) few 0 0 n 0 ps (given-whole 0 n (map bitsOf (g .commands)) (c .pieces))
-      (c .pieces) (omega arith) (commands-read g h c) (omega arith))
+      (c .pieces) (omega arith) (commands-read g c) (omega arith))
 
   -- so it is accepted
   accepted : firstOf (checkRows s) ≡ Ok
@@ -141,23 +147,12 @@ module _ (g : Given) (h : HeldGiven g) (c : Unrefused g) where
       (none-both (paramRows (rawAt s)) (commandRows (rawAt s 7) (commandsIn s)) params-pass commands-pass))
 
   -- ---- what it says
-  -- its pieces are those given, with their starts
-  pieces-back : scriptPieces s ≡ startsFrom 0 (piecesIn (g .commands))
-  unfolding commandWords
-  pieces-back =
-      let ps = piecesIn (g .commands) in
-      let whole = given-whole 0 (length (g .masks)) (map bitsOf (g .commands)) (c .pieces) in
-      rw (there .commandsAt, there .commands)
-      (ap (piecesOf operandsOf) (words-held (rawAt s) (8 + paramCount g) (commandWords (g .commands))
-      (there .commandsThere)) ∙
-      pieces-joined operandsOf (startsFrom 0 ps) (starts-whole 0 ps whole))
-
   -- so its commands are those given
   commands-back : map signed (shortened (scriptPieces s)) ≡ g .commands
   unfolding shortened
   commands-back =
       let ps = piecesIn (g .commands) in
-      ap (λ (l : List Piece). map signed (shortened l)) pieces-back ∙
+      ap (λ (l : List Piece). map signed (shortened l)) (pieces-back g c) ∙
       ap (λ (l : List Piece). map signed (joined l)) (starts-back 0 ps) ∙
       ap (map signed) (joined-pieces givenOperands (map bitsOf (g .commands))) ∙
       numbers-back (g .commands) (h .commands)

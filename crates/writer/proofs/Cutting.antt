@@ -1,18 +1,18 @@
 -- Laws of pieces: words cut into pieces and joined are the words again, and pieces that are whole
 -- come out of their words again. Assumes nothing.
 use mathlib.Core.Path.{_≡_, refl, sym, ap, _∙_}
-use mathlib.Core.Bool.{Bool, true, false, cond}
+use mathlib.Core.Bool.{Bool, true, false, cond, _||_}
 use mathlib.Core.List.{List, [], _∷_, _++_, map}
 use Prim.Native.Nat.{ℕ, zero, suc, min, _+_, _-_, _≤_, _<_}
 use native.Mathlib.Numerals.{add-one}
 use native.Mathlib.Omega.{arith}
 use lib.IntN.{ℤ, pos}
-use lib.Dec.{ltb}
+use lib.Dec.{eqb, ltb}
 use lib.ListN.{length, take, drop, getD, length-append, length-take, length-drop, take-append-drop}
 use lib.ListN.{drop-of-length-le, List·getD-map}
 use lib.Seq.{take-nil, take-at, drop-at, drop-cons, drop-drop, getD-take, getD-drop}
 use mir.Val.{boolByte}
-use borrow.Author.Tests.{lt-ltb, le-ltb, ltb-true, ltb-false}
+use borrow.Author.Tests.{eqb-true, lt-ltb, le-ltb, ltb-true, ltb-false}
 use Rattle.fixed.specs.Integers.{lowBits, bitsOf}
 use Rattle.commands.specs.Commands.{operandsOf}
 use Rattle.writer.specs.Pieces.{Piece, piecesBy, piecesOf, pieceWords, joined, Whole, isMask, givenOperands}
@@ -116,11 +116,11 @@ cut-at ws i n h = by (ltb (length ws) (i + 1 + n)) refl
     there = length-take n (drop (i + 1) ws) ∙ ap (min n) (length-drop (i + 1) ws)
 
     by : (b : Bool) → ltb (length ws) (i + 1 + n) ≡ b → ltb (length (take n (drop (i + 1) ws))) n ≡ b
-    by true e = lt-ltb (length (take n (drop (i + 1) ws))) n (omega (arith, there, ltb-true (length ws) (i + 1 + n) e))
-    by false e = le-ltb (length (take n (drop (i + 1) ws))) n (omega (arith, there, ltb-false (length ws) (i + 1 + n) e))
+    by true e = lt-ltb _ n (omega (arith, there, ltb-true (length ws) (i + 1 + n) e))
+    by false e = le-ltb _ n (omega (arith, there, ltb-false (length ws) (i + 1 + n) e))
 
 -- the first operand of a piece that has one
-pub operand-at : (ws : List ℕ) (i n : ℕ) → 0 < n → getD (take n (drop (i + 1) ws)) 0 0 ≡ getD ws (i + 1) 0
+operand-at : (ws : List ℕ) (i n : ℕ) → 0 < n → getD (take n (drop (i + 1) ws)) 0 0 ≡ getD ws (i + 1) 0
 operand-at ws i n h =
     let e : i + 1 + 0 ≡ i + 1 = omega arith in
     getD-take n (drop (i + 1) ws) 0 0 h ∙ getD-drop (i + 1) ws 0 0 ∙ ap (λ (k : ℕ). getD ws k 0) e
@@ -155,7 +155,8 @@ masks-at ws i h = ap masksIn (piece-at ws i h) ∙ by (isMask (getD ws i 0))
 pub masks-none : (ws : List ℕ) (i : ℕ) → length ws ≤ i → masksIn (piecesOf givenOperands (drop i ws)) ≡ 0
 unfolding masksIn
 masks-none ws i h =
-    ap (λ (l : List ℕ). masksIn (piecesOf givenOperands l)) (drop-of-length-le ws h) ∙ ap masksIn (no-pieces givenOperands)
+    ap (λ (l : List ℕ). masksIn (piecesOf givenOperands l)) (drop-of-length-le ws h) ∙
+    ap masksIn (no-pieces givenOperands)
 
 -- ---- a piece as it is stored
 -- a mask is its kind, its start and its length
@@ -189,3 +190,23 @@ mask-operands k e = rw e
 pub other-operands : (k : ℕ) → isMask k ≡ false → givenOperands k ≡ operandsOf k
 unfolding givenOperands
 other-operands k e = rw e
+
+-- in a script a mask has two, its start and its length
+pub mask-two : (k : ℕ) → isMask k ≡ true → operandsOf k ≡ 2
+unfolding operandsOf
+mask-two k e = by (eqb k 2) refl e
+  where
+    by : (b : Bool) → eqb k 2 ≡ b → (b || eqb k 3) ≡ true → operandsOf k ≡ 2
+    by true f q = ap operandsOf (eqb-true k 2 f)
+    by false f q = ap operandsOf (eqb-true k 3 q)
+
+-- so a piece that is whole as given is whole with its start
+pub started-whole : (n : ℕ) (p : Piece) → length (p .operands) ≡ givenOperands (p .kind) →
+    length (started n p .operands) ≡ operandsOf (p .kind)
+unfolding givenOperands
+started-whole n p e = by (isMask (p .kind)) refl e
+  where
+    by : (b : Bool) → isMask (p .kind) ≡ b → length (p .operands) ≡ cond b 1 (operandsOf (p .kind)) →
+        length (cond b (n ∷ p .operands) (p .operands)) ≡ operandsOf (p .kind)
+    by true f e = omega (arith, mask-two (p .kind) f)
+    by false f e = e

@@ -23,11 +23,14 @@ unfolding pairWords
 pair-words [] = refl
 pair-words (b ∷ bs) = omega (arith, pair-words bs)
 
--- a list has two words for each pair that counts
+-- a list has as many pairs as its count says
+pub list-length : (b : Blues) → length (b .pairs) ≡ maxBlues → b .count ≤ maxBlues → length (listOf b) ≡ b .count
+list-length b s h = length-take-le (b .count) (b .pairs) (omega (arith, s, h))
+
+-- with two words each
 pub list-words : (b : Blues) → length (b .pairs) ≡ maxBlues → b .count ≤ maxBlues →
     length (pairWords (listOf b)) ≡ 2 * b .count
-list-words b s h =
-    omega (arith, pair-words (listOf b), length-take-le (b .count) (b .pairs) (omega (arith, s, h)))
+list-words b s h = omega (arith, pair-words (listOf b), list-length b s h)
 
 -- every list has seven places
 pub record Sevens (p : HintParams) : Type 0 where

@@ -52,7 +52,8 @@ module _ (part masks : List ℕ) where
 
   pub zeroed-length : (i : ℕ) → length masks ≤ i → i ≤ length part → length (zeroed i) ≡ length part
   zeroed-length i h k =
-      omega (arith, length-append (masks ++ replicate (i - length masks) 0) (drop i part), front i h, length-drop i part)
+      let zeros = masks ++ replicate (i - length masks) 0 in
+      omega (arith, length-append zeros (drop i part), front i h, length-drop i part)
 
   pub zeroed-more : (i : ℕ) → length masks ≤ i → i < length part → set (zeroed i) i 0 ≡ zeroed (i + 1)
   zeroed-more i h k =

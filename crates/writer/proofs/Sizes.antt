@@ -4,14 +4,14 @@ use mathlib.Core.List.{List, _++_, map, append-assoc}
 use Prim.Native.Nat.{ℕ, _+_, _-_, _*_, _≤_}
 use native.Mathlib.Omega.{arith}
 use lib.IntN.{ℤ}
-use lib.ListN.{length, take, drop, replicate, length-append, length-replicate, length-map}
+use lib.ListN.{length, drop, replicate, length-append, length-replicate, length-map}
 use lib.Seq.{take-at, drop-at, drop-drop}
 use borrow.Rule.Slice.PartMut.{putMid}
 use Rattle.fixed.specs.Integers.{bitsOf}
 use Rattle.words.specs.Bytes.{bytesOf, laid}
 use Rattle.words.proofs.Laid.{bytes-length, laid-behind}
 use Rattle.header.specs.Header.{padded}
-use Rattle.writer.specs.Pieces.{joined, givenOperands, masksIn}
+use Rattle.writer.specs.Pieces.{givenOperands, masksIn}
 use Rattle.writer.specs.Given.{Given, piecesIn, paramWords, commandWords, headerWords, scriptWords, paddedBytes}
 use Rattle.writer.specs.Given.{scriptFor}
 use Rattle.writer.specs.Refusals.{over}
@@ -26,7 +26,7 @@ commands-length cs =
     (ap length (joined-pieces givenOperands (map bitsOf cs)) ∙ length-map cs bitsOf)
 
 -- mask bytes go up to a whole word
-pub padded-length : (bs : List ℕ) → length (paddedBytes bs) ≡ 4 * padded (length bs)
+padded-length : (bs : List ℕ) → length (paddedBytes bs) ≡ 4 * padded (length bs)
 unfolding paddedBytes
 padded-length bs =
     let none : ℕ = 0 in
@@ -36,11 +36,13 @@ padded-length bs =
       length-replicate (4 * padded (length bs) - length bs) none,
     )
 
+-- the header has eight words, before the parameters and the commands
 pub words-length : (g : Given) →
     length (scriptWords g) ≡ 8 + length (paramWords (g .params)) + length (commandWords (g .commands))
 unfolding scriptWords
 words-length g = omega (arith, length-append (paramWords (g .params)) (commandWords (g .commands)))
 
+-- all of them have four bytes each
 pub script-length : (g : Given) →
     length (scriptFor g) ≡
     4 * (8 + length (paramWords (g .params)) + length (commandWords (g .commands)) + padded (length (g .masks)))
@@ -62,8 +64,10 @@ module _ (g : Given) (b : List ℕ) (r : length (scriptFor g) ≤ length b) wher
   abbrev cs : List ℕ
   cs = commandWords (g .commands)
 
-  words-laid : {b1 b2 b3 : List ℕ} → b1 ≡ laid b 0 (headerWords (g .scale) (length ps) (length cs) (length (g .masks))) →
-      b2 ≡ laid b1 8 ps → b3 ≡ laid b2 (8 + length ps) cs → b3 ≡ laid b 0 (scriptWords g)
+  -- the words
+  words-laid : {b1 b2 b3 : List ℕ} →
+      b1 ≡ laid b 0 (headerWords (g .scale) (length ps) (length cs) (length (g .masks))) → b2 ≡ laid b1 8 ps →
+      b3 ≡ laid b2 (8 + length ps) cs → b3 ≡ laid b 0 (scriptWords g)
   unfolding scriptWords
   words-laid e1 e2 e3 =
       let hs = headerWords (g .scale) (length ps) (length cs) (length (g .masks)) in

@@ -1,27 +1,24 @@
 -- Laws of the walk that stores the commands: what is left of them after each piece has no fault, and
 -- laid behind what is stored it is the whole. Assumes nothing.
 use mathlib.Core.Path.{_≡_, refl, sym, ap, _∙_}
-use mathlib.Core.Bool.{Bool, true, false, cond, true≢false, _||_}
-use mathlib.Core.List.{List, [], _∷_, _++_, map}
+use mathlib.Core.Bool.{false}
+use mathlib.Core.List.{List, [], _++_, map}
 use Prim.Native.Nat.{ℕ, _+_, _-_, _*_, _≤_, _<_}
 use native.Mathlib.Omega.{arith}
-use lib.Dec.{eqb, ltb}
 use lib.IntN.{ℤ}
-use lib.ListN.{length, take, drop, getD, length-append, length-take, length-drop, drop-of-length-le}
-use borrow.Author.Tests.{eqb-true, ltb-false}
+use lib.ListN.{length, drop, getD, length-append, drop-of-length-le}
 use Rattle.fixed.specs.Integers.{bitsOf}
-use Rattle.words.specs.Words.{negative}
 use Rattle.words.specs.Bytes.{laid}
-use Rattle.words.proofs.Laid.{laid-behind, laid-none}
-use Rattle.header.proofs.Tests.{both-false}
+use Rattle.words.proofs.Laid.{laid-behind}
 use Rattle.commands.specs.Commands.{operandsOf}
 use Rattle.writer.specs.declared.write_answer.WriteAnswer.the-variants.{Written}
-use Rattle.writer.specs.Pieces.{Piece, piecesOf, pieceWords, joined, isMask, givenOperands, pieceAt, bytesTaken}
+use Rattle.writer.specs.Pieces.{Piece, piecesOf, pieceWords, joined, givenOperands, pieceAt, bytesTaken}
 use Rattle.writer.specs.Pieces.{started, startsFrom}
 use Rattle.writer.specs.Given.{commandWords}
-use Rattle.writer.specs.Refusals.{writeNumber, badPiece, tooLong, FineCommands}
-use Rattle.writer.proofs.Cutting.{piece-at, no-pieces, mask-operands, other-operands}
-use Rattle.writer.proofs.Faults.{found, nextPiece, found-bad, found-long, found-next, piece-there, piece-words}
+use Rattle.writer.specs.Refusals.{writeNumber, badPiece, tooLong, pieceRows, FineCommands}
+use Rattle.writer.proofs.Cutting.{piece-at, no-pieces, started-whole}
+use Rattle.writer.proofs.Faults.{found, nextPiece, found-next, piece-there, piece-words, taken-left, none-hold}
+use Rattle.writer.proofs.Faults.{pieces-refuse}
 
 -- ---- what is left has no fault
 pub record Sound (ws : List ℕ) (i start : ℕ) : Type 0 where
@@ -31,6 +28,7 @@ pub record Sound (ws : List ℕ) (i start : ℕ) : Type 0 where
   pub faultless : found ws i (bytes - start) ≡ Written 0
   pub inside : i ≤ length ws
 
+-- at the start all is left
 pub sound-first : (cs : List ℤ) → FineCommands cs → Sound (map bitsOf cs) 0 0
 sound-first cs f =
     let z : f .bytes - 0 ≡ f .bytes = omega arith in
@@ -43,35 +41,25 @@ sound-first cs f =
     }
 
 module _ (ws : List ℕ) (i start : ℕ) (h : i < length ws) (s : Sound ws i start) where
-  sound-whole : badPiece (pieceAt ws i) ≡ false
-  sound-whole = by (badPiece (pieceAt ws i)) refl
-    where
-      by : (b : Bool) → badPiece (pieceAt ws i) ≡ b → b ≡ false
-      by true e = absurd (omega (arith, ap writeNumber (found-bad ws i h (s .bytes - start) e ∙ s .faultless)))
-      by false e = refl
-
-  sound-short : tooLong (bytesTaken (pieceAt ws i)) (s .bytes - start) ≡ false
-  sound-short = by (tooLong (bytesTaken (pieceAt ws i)) (s .bytes - start)) refl
-    where
-      by : (b : Bool) → tooLong (bytesTaken (pieceAt ws i)) (s .bytes - start) ≡ b → b ≡ false
-      by true e =
-          absurd (omega (arith, ap writeNumber (found-long ws i h (s .bytes - start) sound-whole e ∙ s .faultless)))
-      by false e = refl
+  -- no test of the piece holds
+  sound-tests : (badPiece (pieceAt ws i) ≡ false) × (tooLong (bytesTaken (pieceAt ws i)) (s .bytes - start) ≡ false)
+  unfolding pieceRows
+  sound-tests =
+      let left = s .bytes - start in
+      let c = rw (piece-at ws i h) at
+      (none-hold (Written 0) (pieceRows i left (piecesOf givenOperands (drop i ws)))
+      (pieces-refuse i left (piecesOf givenOperands (drop i ws))) (ap writeNumber (s .faultless))) in
+      (c .0, c .1 .0)
 
   -- a piece ends among the words
   pub sound-there : nextPiece ws i ≤ length ws
-  sound-there = piece-there ws i h sound-whole
+  sound-there = piece-there ws i h (sound-tests .0)
 
   -- and its bytes among the mask bytes
   pub sound-taken : start + bytesTaken (pieceAt ws i) ≤ s .bytes
-  sound-taken =
-      let l = bytesTaken (pieceAt ws i) in
-      omega (
-        arith,
-        s .taken,
-        ltb-false (s .bytes - start) l (both-false (negative l) (ltb (s .bytes - start) l) sound-short .1),
-      )
+  sound-taken = omega (arith, s .taken, taken-left (bytesTaken (pieceAt ws i)) (s .bytes - start) (sound-tests .1))
 
+  -- so what is left behind it has none
   pub sound-next : Sound ws (nextPiece ws i) (start + bytesTaken (pieceAt ws i))
   sound-next =
       let l = bytesTaken (pieceAt ws i) in
@@ -82,7 +70,7 @@ module _ (ws : List ℕ) (i start : ℕ) (h : i < length ws) (s : Sound ws i sta
         taken = sound-taken;
         faultless =
             ap (found ws (nextPiece ws i)) (sym e) ∙
-            sym (found-next ws i h (s .bytes - start) sound-whole sound-short) ∙ s .faultless;
+            sym (found-next ws i h (s .bytes - start) (sound-tests .0) (sound-tests .1)) ∙ s .faultless;
         inside = sound-there;
       }
 
@@ -90,51 +78,33 @@ module _ (ws : List ℕ) (i start : ℕ) (h : i < length ws) (s : Sound ws i sta
 pub left : List ℕ → ℕ → ℕ → List ℕ
 left ws i start = joined (startsFrom start (piecesOf givenOperands (drop i ws)))
 
+-- all of them
 pub left-all : (cs : List ℤ) → commandWords cs ≡ left (map bitsOf cs) 0 0
 unfolding left commandWords
 left-all cs = refl
 
+-- none
 pub left-none : (ws : List ℕ) (i start : ℕ) → length ws ≤ i → left ws i start ≡ []
 unfolding left joined startsFrom
 left-none ws i start h =
     ap (λ (l : List ℕ). joined (startsFrom start (piecesOf givenOperands l))) (drop-of-length-le ws h) ∙
     ap (λ (ps : List Piece). joined (startsFrom start ps)) (no-pieces givenOperands)
 
+-- the first of them, and the rest
 pub left-first : (ws : List ℕ) (i start : ℕ) → i < length ws →
     left ws i start ≡
     pieceWords (started start (pieceAt ws i)) ++ left ws (nextPiece ws i) (start + bytesTaken (pieceAt ws i))
 unfolding left joined startsFrom
 left-first ws i start h = ap (λ (ps : List Piece). joined (startsFrom start ps)) (piece-at ws i h)
 
--- a mask has two operands in a script
-mask-two : (k : ℕ) → isMask k ≡ true → operandsOf k ≡ 2
-unfolding operandsOf
-mask-two k e = by (eqb k 2) refl e
-  where
-    by : (b : Bool) → eqb k 2 ≡ b → (b || eqb k 3) ≡ true → operandsOf k ≡ 2
-    by true f q = ap operandsOf (eqb-true k 2 f)
-    by false f q = ap operandsOf (eqb-true k 3 q)
-
 -- a piece that is not cut off has in a script the operands of its kind
 pub stored-words : (ws : List ℕ) (i start : ℕ) → i < length ws → nextPiece ws i ≤ length ws →
     length (pieceWords (started start (pieceAt ws i))) ≡ 1 + operandsOf (getD ws i 0)
-stored-words ws i start h l = by (isMask (getD ws i 0)) refl
-  where
-    k : ℕ
-    k = getD ws i 0
-
-    os : List ℕ
-    os = take (givenOperands k) (drop (i + 1) ws)
-
-    many : length os ≡ givenOperands k
-    many = omega (arith, l, length-take (givenOperands k) (drop (i + 1) ws), length-drop (i + 1) ws)
-
-    by : (b : Bool) → isMask k ≡ b → length (k ∷ cond b (start ∷ os) os) ≡ 1 + operandsOf k
-    by true e = omega (arith, many, mask-operands k e, mask-two k e)
-    by false e = omega (arith, many, other-operands k e)
+stored-words ws i start h l =
+    omega (arith, started-whole start (pieceAt ws i) (omega (arith, piece-words ws i h l)))
 
 -- a piece stored, and the rest behind it
-pub piece-laid : (b : List ℕ) (to : ℕ) (ws : List ℕ) (i start : ℕ) → i < length ws → nextPiece ws i ≤ length ws →
+piece-laid : (b : List ℕ) (to : ℕ) (ws : List ℕ) (i start : ℕ) → i < length ws → nextPiece ws i ≤ length ws →
     4 * (to + length (left ws i start)) ≤ length b →
     laid b to (left ws i start) ≡
     laid (laid b to (pieceWords (started start (pieceAt ws i)))) (to + 1 + operandsOf (getD ws i 0))
