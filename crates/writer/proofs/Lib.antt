@@ -5,3 +5,4 @@ pub mod Padding
 pub mod Walking
 pub mod Sizes
 pub mod Answering
+pub mod Unique

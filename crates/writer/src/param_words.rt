@@ -9,6 +9,7 @@ ghost use mathlib.Core.Path.{_≡_};
 ghost use Prim.Native.Nat.{_+_, _≤_};
 ghost use lib.IntN.{pos};
 ghost use lib.ListN.{getD};
+ghost use Rattle.words.specs.Words.{numberAt};
 ghost use Rattle.header.specs.Params.{pairAt};
 ghost use Rattle.writer.specs.ParamWords.{givenWord, bluesIn, paramsIn};
 
@@ -38,7 +39,7 @@ fn word_or_zero(words: &[i32], i: usize) -> i32
 }
 
 fn number_or_zero(words: &[i32], i: usize) -> Fixed
-    ensures { λ r. ⌜ r .bits ≡ getD (now (words .entry)) i (pos 0) ⌝ }
+    ensures { λ r. ⌜ r ≡ numberAt (givenWord (now (words .entry))) i ⌝ }
 {
     let bits = word_or_zero(words, i);
     Fixed { bits }
@@ -53,23 +54,22 @@ fn pair_from(words: &[i32], at: usize) -> Blue
     Blue { bottom, top }
 }
 
-// The list from word `first` on, whose count is word `count`.
+// The seven pairs from word `first` on, whose count is word `count`.
 fn blues_from(words: &[i32], first: usize, count: usize) -> Blues
     requires { ⌜ first ≤ 50 ⌝ }
     ensures { λ r. ⌜ r ≡ bluesIn (givenWord (now (words .entry))) first count ⌝ }
 {
-    let none = Blue {
-        bottom: Fixed::ZERO,
-        top: Fixed::ZERO,
-    };
-    let mut blues = Blues {
-        pairs: [none; MAX_BLUES],
-        count: bits_of(word_or_zero(words, count)) as usize,
-    };
-    for i in 0..MAX_BLUES {
-        blues.pairs[i] = pair_from(words, first + 2 * i);
-    }
-    blues
+    let pairs = [
+        pair_from(words, first),
+        pair_from(words, first + 2),
+        pair_from(words, first + 4),
+        pair_from(words, first + 6),
+        pair_from(words, first + 8),
+        pair_from(words, first + 10),
+        pair_from(words, first + 12),
+    ];
+    let count = bits_of(word_or_zero(words, count)) as usize;
+    Blues { pairs, count }
 }
 
 // The parameters. Words that are missing count as 0, and further ones are not read.
