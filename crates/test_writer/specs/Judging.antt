@@ -11,6 +11,7 @@ use Rattle.words.specs.Words.{rawAt, numberAt}
 use Rattle.words.specs.Rows.{Row, row, firstOr}
 use Rattle.words.specs.Answers.{numberOf, placeOf}
 use Rattle.header.specs.Header.{differs}
+use Rattle.writer.specs.declared.write_answer.WriteAnswer.{WriteAnswer}
 use Rattle.writer.specs.ParamWords.{paramsIn}
 use Rattle.writer.specs.Refusals.{WriteResult, writeNumber, writePlace, writtenBytes}
 use Rattle.readback.specs.declared.reading_back.ReadBack.{ReadBack}
@@ -36,6 +37,9 @@ abbrev pub wordRow : List ℤ → List ℕ → Row Verdict
 wordRow left stored = row (ltb (firstWord left stored) (length left)) (Word (firstWord left stored))
 
 -- ---- writing: the number is at word 5, the place at word 6, the bytes written at word 7
+abbrev pub writing : WriteAnswer → List ℕ → WriteResult
+writing answer left = record { answer = answer; left = left }
+
 unfoldable pub writeRows : List ℕ → List ℕ → WriteResult → List (Row Verdict)
 writeRows head stored r =
     row (differs (writeNumber (r .answer)) (rawAt head 5)) Number ∷
@@ -49,8 +53,8 @@ writeVerdict head stored r = firstOr Same (writeRows head stored r)
 
 -- ---- reading: the number is at word 4, the place at word 5, the count of command words at word 6,
 -- that of mask bytes at word 7, the scale at word 8
-abbrev pub read : ReadBack → List ℤ → List ℕ → ReadResult
-read said commands masks = record { said = said; commands = commands; masks = masks }
+abbrev pub reading : ReadBack → List ℤ → List ℕ → ReadResult
+reading said commands masks = record { said = said; commands = commands; masks = masks }
 
 unfoldable pub readRows : List ℕ → List ℤ → List ℕ → List ℕ → ReadResult → List (Row Verdict)
 readRows head params words bytes r =

@@ -10,6 +10,7 @@ use readback::ReadBack;
 use readback::read_back;
 use words::natural;
 use words::number;
+use writer::WriteAnswer;
 use writer::params_from;
 use writer::write_script;
 ghost use mathlib.Core.Path.{_≡_};
@@ -21,7 +22,7 @@ ghost use Rattle.writer.specs.ParamWords.{paramsIn};
 ghost use Rattle.writer.specs.Refusals.{writeOf};
 ghost use Rattle.readback.specs.ReadBack.{readBackOf};
 ghost use Rattle.test_writer.specs.Lending.{filled, lentByte, lentWord};
-ghost use Rattle.test_writer.specs.Judging.{writeVerdict, readVerdict, read};
+ghost use Rattle.test_writer.specs.Judging.{writing, writeVerdict, reading, readVerdict};
 
 // What first differs from what is stored. A word is one of the buffer for commands, and a byte one
 // of the buffer for the script or for masks.
@@ -57,6 +58,15 @@ pub(crate) fn judged_writing(
     lend_bytes(script, head[4 * write_row::FILL]);
     let scale = number(head, write_row::SCALE);
     let answer = write_script(scale, params_from(params), commands, masks, script);
+    compared_writing(head, stored, answer, script)
+}
+
+// What a script was written as.
+fn compared_writing(head: &[u8], stored: &[u8], answer: WriteAnswer, script: &[u8]) -> Verdict
+    requires { ⌜ (36 ≤ length (now head)) × (length (now script) ≤ length (now stored)) ⌝ }
+    ensures { λ r. ⌜ r ≡
+        writeVerdict (now (head .entry)) (now (stored .entry)) (writing answer (now (script .entry))) ⌝ }
+{
     if answer.code() as usize != natural(head, write_row::NUMBER) {
         return Verdict::Number;
     }
@@ -95,11 +105,11 @@ pub(crate) fn judged_reading(
     lend_words(commands, fill);
     lend_bytes(masks, fill);
     let said = read_back(script, commands, masks);
-    compared(head, params, words, bytes, said, commands, masks)
+    compared_reading(head, params, words, bytes, said, commands, masks)
 }
 
 // What a script was read back as.
-fn compared(
+fn compared_reading(
     head: &[u8],
     params: &[i32],
     words: &[u8],
@@ -112,7 +122,7 @@ fn compared(
         ((4 * length (now commands) ≤ length (now words)) × (length (now masks) ≤ length (now bytes))) ⌝ }
     ensures { λ r. ⌜ r ≡
         readVerdict (now (head .entry)) (now (params .entry)) (now (words .entry)) (now (bytes .entry))
-        (read said (now (commands .entry)) (now (masks .entry))) ⌝ }
+        (reading said (now (commands .entry)) (now (masks .entry))) ⌝ }
 {
     let answer = said.answer;
     if answer.code() as usize != natural(head, read_row::NUMBER) {

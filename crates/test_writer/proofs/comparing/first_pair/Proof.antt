@@ -23,7 +23,7 @@ told : (c : tie.After-same-pair Inv-loop μ-loop) →
     c .same-pair .result ≡
     pairsAgree (c .before .before .before .before .before .args .t1)
     (c .before .before .before .before .before .args .t2) (c .before .before .before .before .loop .i)
-told c = ?
+told c = c .same-pair .ensures
 
 loop-holds : tie.Need-loop-holds Inv-loop μ-loop
 loop-holds c = (ap (firstFrom _ 0) (omega arith), search needs)

@@ -1,12 +1,22 @@
 -- `same_numbers` meets its contract, by its four tests. Assumes nothing.
 use mathlib.Core.Path.{_≡_, sym, _∙_}
 use mathlib.Core.Bool.{true}
+use mir.Syntax.{w32}
+use mir.Val.{SFits}
+use mir.Facts.{toZ-ofZ}
 use borrow.Author.Tests.{not-true, not-false}
 use borrow.Author.Needs.{needs}
 use Rattle.fixed.specs.Fixed.{sameF}
 use Rattle.test_writer.specs.Comparing.{sameNumbers}
 use Rattle.test_writer.proofs.comparing.same_numbers.Statement.{statement}
 use Rattle.test_writer.proofs.comparing.same_numbers.Tie as tie
+
+-- the language groups are numbers of 32 bits
+fits-a : (s : tie.Start) → SFits w32 (s .args .a .«language_group»)
+fits-a s = search needs
+
+fits-b : (s : tie.Start) → SFits w32 (s .args .b .«language_group»)
+fits-b s = search needs
 
 -- the numbers before each test agree
 scales : (c : tie.Else1) →
@@ -59,7 +69,12 @@ same-requires-4 c κs = search needs
 
 returns-4 : tie.Need-returns-4
 unfolding sameNumbers
-returns-4 c = ?
+returns-4 c =
+    let g = c .before .before .before in
+    let f = g .before .before in
+    let e = f .before .before in
+    let s = e .before .before in
+    rw (scales e, shifts f, fuzzes g) (rw (toZ-ofZ (fits-a s), toZ-ofZ (fits-b s)) at (c .same4 .ensures))
 
 pub same-numbers-spec : {M : Type 1} → statement M
 same-numbers-spec =

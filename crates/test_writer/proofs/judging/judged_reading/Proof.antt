@@ -1,48 +1,55 @@
+-- `judged_reading` gives the verdict on what `read_back` says, and leaves of what is lent. Assumes
+-- nothing.
+use native.Mathlib.Omega.{arith}
 use borrow.Author.Needs.{needs}
+use Rattle.test_writer.proofs.Results.{read-is}
 use Rattle.test_writer.proofs.judging.judged_reading.Statement.{statement}
 use Rattle.test_writer.proofs.judging.judged_reading.Tie as tie
-use Rattle.test_writer.proofs.judging.judged_reading.Reads as reads
-use Rattle.test_writer.proofs.judging.judged_reading.Lts as lts
-use Rattle.readback.proofs.read_back.Reads as read-back-reads
-use Rattle.test_writer.proofs.judging.compared.Reads as compared-reads
-use Rattle.test_writer.proofs.lending.lend_bytes.Reads as lend-bytes-reads
-use Rattle.test_writer.proofs.lending.lend_words.Reads as lend-words-reads
 
--- src/judging.rt:94:21
+abbrev begin : tie.After-lend-words → tie.Start
+begin c = c .before .before .before .before .before .before .before .before
+
 mul-fill : tie.Need-mul-fill
 mul-fill c = search needs
 
--- src/judging.rt:94:16
 shared-slice-read-fill : tie.Need-shared-slice-read-fill
 shared-slice-read-fill c = search needs
 
--- src/judging.rt:95:5
 lend-words-requires : tie.Need-lend-words-requires
 lend-words-requires c κs = search needs
 
--- src/judging.rt:96:5
 lend-bytes-requires : tie.Need-lend-bytes-requires
 lend-bytes-requires c κs = search needs
 
--- src/judging.rt:97:9
 read-back-requires : tie.Need-read-back-requires
 read-back-requires c κs = search needs
 
--- src/judging.rt:98:5
-compared-requires : tie.Need-compared-requires
-compared-requires c κs = ?
+compared-reading-requires : tie.Need-compared-reading-requires
+compared-reading-requires c κs =
+    let r = c .before .before .before .before .before in
+    let b = r .before .before .before .before .before in
+    let w = b .before .before .before in
+    let s = begin w in (
+      s .pre .0,
+      (
+        omega (arith, s .pre .1 .0, r .read-back .kept .1 .0, w .lend-words .kept .0),
+        omega (arith, s .pre .1 .1, r .read-back .kept .1 .1 .0, b .lend-bytes .kept .0),
+      ),
+    )
 
--- src/judging.rt:77:1
 same-length : tie.Need-same-length
 same-length c = search needs
 
--- src/judging.rt:77:1
 same-length-2 : tie.Need-same-length-2
 same-length-2 c = search needs
 
--- src/judging.rt:77:1
 returns : tie.Need-returns
-returns c = ?
+returns c =
+    let r = c .before .before .before .before .before .before in
+    let b = r .before .before .before .before .before in
+    let w = b .before .before .before in
+    let o = rw (w .lend-words .ensures, b .lend-bytes .ensures) at (r .read-back .ensures) in
+    rw (read-is o) at (c .compared-reading .ensures)
 
 pub judged-reading-spec : {M : Type 1} → statement M
 judged-reading-spec =
@@ -53,7 +60,7 @@ judged-reading-spec =
     lend-words-requires
     lend-bytes-requires
     read-back-requires
-    compared-requires
+    compared-reading-requires
     same-length
     same-length-2
     returns)
