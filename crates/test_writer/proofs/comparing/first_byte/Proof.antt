@@ -1,9 +1,9 @@
--- `first_byte` meets its contract. The loop's invariant: the search from `i` on finds what the search
--- from 0 on finds. Assumes nothing.
+-- `first_byte` meets its contract. The loop's invariant: the search from `i` on finds what the
+-- search from 0 on finds. Assumes nothing.
 use mathlib.Core.Path.{_≡_, ap, sym, _∙_}
 use Prim.Native.Nat.{_≤_, _-_}
 use native.Mathlib.Omega.{arith}
-use lib.ListN.{length, getD}
+use lib.ListN.{length}
 use borrow.Author.Needs.{needs}
 use borrow.Author.Tests.{eq-eqb, ne-eqb}
 use Rattle.test_writer.specs.Comparing.{firstFrom, firstDifferent, sameByte}

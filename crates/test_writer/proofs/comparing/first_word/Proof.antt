@@ -1,5 +1,5 @@
--- `first_word` meets its contract. The loop's invariant: the search from `i` on finds what the search
--- from 0 on finds. Assumes nothing.
+-- `first_word` meets its contract. The loop's invariant: the search from `i` on finds what the
+-- search from 0 on finds. Assumes nothing.
 use mathlib.Core.Path.{_≡_, ap, sym, _∙_}
 use Prim.Native.Nat.{_≤_, _-_}
 use native.Mathlib.Omega.{arith}

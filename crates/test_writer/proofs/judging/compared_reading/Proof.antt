@@ -1,5 +1,5 @@
--- `compared_reading` makes the tests of `readRows` in their order: one that holds gives the verdict,
--- and one that does not is passed. Assumes nothing.
+-- `compared_reading` makes the tests of `readRows` in their order: one that holds gives the
+-- verdict, and one that does not is passed. Assumes nothing.
 use mathlib.Core.Path.{_≡_, refl, sym, ap, _∙_}
 use mathlib.Core.Bool.{not}
 use mathlib.Core.List.{List}

@@ -1,5 +1,5 @@
--- `compared_writing` makes the tests of `writeRows` in their order: one that holds gives the verdict,
--- and one that does not is passed. Assumes nothing.
+-- `compared_writing` makes the tests of `writeRows` in their order: one that holds gives the
+-- verdict, and one that does not is passed. Assumes nothing.
 use mathlib.Core.Path.{refl, sym, ap, _∙_}
 use mathlib.Core.List.{List}
 use borrow.Author.Tests.{lt-ltb, le-ltb}

@@ -1,5 +1,5 @@
--- `judged_writing` gives the verdict on what `write_script` leaves of the bytes that are lent. Assumes
--- nothing.
+-- `judged_writing` gives the verdict on what `write_script` leaves of the bytes that are lent.
+-- Assumes nothing.
 use borrow.Author.Needs.{needs}
 use Rattle.test_writer.proofs.Results.{wrote-is}
 use Rattle.test_writer.proofs.judging.judged_writing.Statement.{statement}

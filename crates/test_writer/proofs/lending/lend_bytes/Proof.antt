@@ -1,6 +1,6 @@
--- `lend_bytes` meets its contract. The loop's invariant: the first `i` bytes are lent, and `byte` is
--- the next one. Assumes nothing.
-use mathlib.Core.Path.{_≡_, refl, _∙_}
+-- `lend_bytes` meets its contract. The loop's invariant: the first `i` bytes are lent, and `byte`
+-- is the next one. Assumes nothing.
+use mathlib.Core.Path.{_≡_, refl}
 use Prim.Native.Nat.{_≤_, _-_}
 use native.Mathlib.Omega.{arith}
 use lib.ListN.{length, take, length-set}

@@ -1,5 +1,5 @@
--- `lend_words` meets its contract. The loop's invariant: the first `i` words are lent, and `bits` are
--- those of the next one. Assumes nothing.
+-- `lend_words` meets its contract. The loop's invariant: the first `i` words are lent, and `bits`
+-- are those of the next one. Assumes nothing.
 use mathlib.Core.Path.{_≡_, refl, ap, _∙_}
 use Prim.Native.Nat.{_+_, _*_, _≤_, _-_, _%_, _^_}
 use native.Mathlib.Omega.{arith}
@@ -52,8 +52,8 @@ loop-again c =
     let l = c .before .before .before in
     let f = lentWord (l .before .args .fill) in
     let w : SFits w32 (c .before .signed .result) = search needs in (
-      filled-more f (l .loop .out) (l .loop .i) _ (toZ-ofZ w ∙ c .before .signed .ensures ∙ ap signed (l .loop .inv .1 .0))
-          (omega arith) (l .loop .inv .0),
+      filled-more f (l .loop .out) (l .loop .i) _
+          (toZ-ofZ w ∙ c .before .signed .ensures ∙ ap signed (l .loop .inv .1 .0)) (omega arith) (l .loop .inv .0),
       (omega (arith, c .wrapping-add-u32 .ensures), (simp length-set (l .loop .inv .1 .1 .0), search needs)),
     )
 
