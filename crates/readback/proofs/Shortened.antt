@@ -57,18 +57,22 @@ module _ (w : ℕ → ℕ) where
       ap (λ (l : List ℕ). w i ∷ l)
       (words-split (i + 1) m n ∙ ap (λ (k : ℕ). wordsFrom w (i + 1) m ++ wordsFrom w k n) f)
 
-  -- the first m of n
+  -- the first m of n, and those behind
+  words-apart : (i m n : ℕ) → m ≤ n → wordsFrom w i n ≡ wordsFrom w i m ++ wordsFrom w (i + m) (n - m)
+  words-apart i m n h =
+      let e : n ≡ m + (n - m) = omega arith in
+      ap (wordsFrom w i) e ∙ words-split i m (n - m)
+
+  -- so the first m
   words-taken : (i m n : ℕ) → m ≤ n → take m (wordsFrom w i n) ≡ wordsFrom w i m
   words-taken i m n h =
-      let e : n ≡ m + (n - m) = omega arith in
-      ap (λ (k : ℕ). take m (wordsFrom w i k)) e ∙ ap (take m) (words-split i m (n - m)) ∙
+      ap (take m) (words-apart i m n h) ∙
       take-at (wordsFrom w i m) (wordsFrom w (i + m) (n - m)) m (words-length i m)
 
   -- and those behind them
   words-left : (i m n : ℕ) → m ≤ n → drop m (wordsFrom w i n) ≡ wordsFrom w (i + m) (n - m)
   words-left i m n h =
-      let e : n ≡ m + (n - m) = omega arith in
-      ap (λ (k : ℕ). drop m (wordsFrom w i k)) e ∙ ap (drop m) (words-split i m (n - m)) ∙
+      ap (drop m) (words-apart i m n h) ∙
       drop-at (wordsFrom w i m) (wordsFrom w (i + m) (n - m)) m (words-length i m)
 
 -- ---- the pieces of n words from a first one on, without those of the words before word `at`

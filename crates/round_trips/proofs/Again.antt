@@ -33,8 +33,8 @@ use Rattle.readback.proofs.Shortened.{words-length}
 use Rattle.readback.proofs.Rooms.{masks-length}
 use Rattle.round_trips.specs.RoundTrips.{Bytes, EndToEnd, WrittenAgain}
 use Rattle.round_trips.proofs.WordBytes.{all-bits}
-use Rattle.round_trips.proofs.EndToEnd.{Sound, bare-whole, bare-small, same-length, not-masked, lie-start}
-use Rattle.round_trips.proofs.EndToEnd.{start-lie}
+use Rattle.round_trips.proofs.EndToEnd.{Sound, bare-whole, bare-small, same-length, masked, none-masked}
+use Rattle.round_trips.proofs.EndToEnd.{lie-start, start-lie}
 use Rattle.round_trips.proofs.Commands.{script-sound, script-parts}
 use Rattle.round_trips.proofs.LaidOut.{layout, params-many, script-again}
 use Rattle.round_trips.proofs.Written.{pieces-back}
@@ -122,7 +122,7 @@ module _ (s : List ℕ) (held : Bytes s) (e : firstOf (checkRows s) ≡ Ok) wher
         let a : writeAnswer g (length lent) ≡ firstOr ok (pieceRows 0 (rawAt s 7) bare ++ last) =
         none-onward ok (givenRows (g .scale) (g .params)) (qs ++ last) given-pass ∙
         ap (λ (rs : List (Row WriteAnswer)). firstOr ok (rs ++ last)) rows-given in
-        not-masked ok last (rawAt s 7) sound (rw a at n)
+        none-masked ok (pieceRows 0 (rawAt s 7) bare) last (masked 0 (rawAt s 7) sound) (rw a at n)
 
     -- masks that lie end to end are written as they were
     written : EndToEnd s → WrittenAgain s lent

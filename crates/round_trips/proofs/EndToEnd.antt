@@ -1,11 +1,10 @@
 -- A script's pieces, with their starts left out and made anew: no test of the writer holds and they
 -- are the same exactly if their masks lie end to end, and else the answer is BAD_MASK. Assumes nothing.
 use mathlib.Core.Path.{_≡_, refl, sym, ap, _∙_}
-use mathlib.Core.Bool.{Bool, true, false, cond}
+use mathlib.Core.Bool.{Bool, true, false, cond, true≢false}
 use mathlib.Core.List.{List, [], _∷_, _++_, map}
 use Prim.Native.Nat.{ℕ, suc, _+_, _-_, _≤_}
 use native.Mathlib.Omega.{arith}
-use lib.Dec.{ltb}
 use lib.ListN.{length, getD, length-append}
 use borrow.Author.Tests.{le-ltb, ltb-false}
 use Rattle.words.specs.Rows.{Row, firstOr}
@@ -13,10 +12,8 @@ use Rattle.header.specs.Header.{outside}
 use Rattle.header.proofs.Tests.{before-end}
 use Rattle.commands.specs.Commands.{operandsOf}
 use Rattle.writer.specs.declared.write_answer.WriteAnswer.{WriteAnswer}
-use Rattle.writer.specs.declared.write_answer.WriteAnswer.the-variants.{BadMask}
-use Rattle.writer.specs.Pieces.{Piece, pieceWords, joined, Whole, isMask, givenOperands, bytesTaken, startsFrom}
-use Rattle.writer.specs.Pieces.{unstarted}
-use Rattle.writer.specs.Refusals.{writeNumber, badPiece, tooLong, pieceRows}
+use Rattle.writer.specs.Pieces.{Piece, joined, Whole, isMask, givenOperands, startsFrom, unstarted}
+use Rattle.writer.specs.Refusals.{writeNumber, pieceRows}
 use Rattle.writer.proofs.Faults.{NoneHold, taken-left}
 use Rattle.round_trips.specs.RoundTrips.{Part, LieFrom}
 use Rattle.round_trips.proofs.WordBytes.{Small, small-both}
@@ -68,52 +65,36 @@ same-length n (plain {k} {os} {ps} e r o w h) =
     rw e
     (ap suc (length-append os _ ∙ ap (λ (x : ℕ). length os + x) (same-length _ h) ∙ sym (length-append os (joined ps))))
 
--- none is bad
-abbrev NoneBad : List Piece → Type 0
-NoneBad [] = Unit {0}
-NoneBad (p ∷ ps) = (badPiece p ≡ false) × NoneBad ps
+-- ---- the writer's tests
+-- they hold only where they say BAD_MASK
+abbrev Masked : List (Row WriteAnswer) → Type 0
+Masked [] = Unit {0}
+Masked (r ∷ rs) = (r .fault ≡ true → writeNumber (r .said) ≡ 5) × Masked rs
 
--- so of a script's pieces
-none-bad : {ps : List Piece} → Sound ps → NoneBad (map unstarted ps)
-unfolding givenOperands
-none-bad none = tt
-none-bad (mask e r w h) = (rw (e, r), none-bad h)
-none-bad (plain {k} {os} e r n w h) = (rw (e, r) (le-ltb (length os) (operandsOf k) (omega arith)), none-bad h)
+-- so of a script's pieces, none of which is bad
+pub masked : {ps : List Piece} (place left : ℕ) → Sound ps → Masked (pieceRows place left (map unstarted ps))
+unfolding pieceRows givenOperands
+masked place left none = ((λ q. refl), tt)
+masked place left (mask {k} {a} {b} e r w h) =
+    rw (e, r) ((λ q. absurd (true≢false (sym q))), ((λ q. refl), masked (place + 2) (left - b) h))
+masked place left (plain {k} {os} e r n w h) =
+    let g = le-ltb (length os) (operandsOf k) (omega arith) in
+    rw (e, r, g) ((λ q. absurd (true≢false (sym q))), ((λ q. refl), masked (place + length (k ∷ os)) (left - 0) h))
 
--- ---- the writer's tests, before others
-module _ (ok : WriteAnswer) (rs : List (Row WriteAnswer)) where
-  abbrev answer : ℕ → ℕ → List Piece → WriteAnswer
-  answer place left qs = firstOr ok (pieceRows place left qs ++ rs)
+-- where the answer is not BAD_MASK none of them holds
+pub none-masked : (ok : WriteAnswer) (rs qs : List (Row WriteAnswer)) → Masked rs →
+    (writeNumber (firstOr ok (rs ++ qs)) ≡ 5 → ⊥) → NoneHold rs
+unfolding firstOr
+none-masked ok [] qs m n = tt
+none-masked ok (r ∷ rs) qs m n = go (r .fault) refl n (λ k. none-masked ok rs qs (m .1) k)
+  where
+    rest : WriteAnswer
+    rest = firstOr ok (rs ++ qs)
 
-  -- where no piece is bad and the answer is not BAD_MASK none of their tests holds
-  none-masked : (place left : ℕ) (qs : List Piece) → NoneBad qs → (writeNumber (answer place left qs) ≡ 5 → ⊥) →
-      NoneHold (pieceRows place left qs)
-  unfolding firstOr pieceRows
-  none-masked place left [] f n = go (ltb 0 left) refl n
-    where
-      go : (b : Bool) → ltb 0 left ≡ b → (writeNumber (cond b (BadMask place) (firstOr ok rs)) ≡ 5 → ⊥) →
-          (ltb 0 left ≡ false) × Unit {0}
-      go true e m = absurd (m refl)
-      go false e m = (e, tt)
-  none-masked place left (q ∷ qs) f n =
-      go (tooLong (bytesTaken q) left) refl (rw (f .0) at n) (λ m. none-masked _ (left - bytesTaken q) qs (f .1) m)
-    where
-      next : ℕ
-      next = place + length (pieceWords q)
-
-      rest : WriteAnswer
-      rest = answer next (left - bytesTaken q) qs
-
-      go : (b : Bool) → tooLong (bytesTaken q) left ≡ b → (writeNumber (cond b (BadMask place) rest) ≡ 5 → ⊥) →
-          ((writeNumber rest ≡ 5 → ⊥) → NoneHold (pieceRows next (left - bytesTaken q) qs)) →
-          NoneHold (pieceRows place left (q ∷ qs))
-      go true e m k = absurd (m refl)
-      go false e m k = (f .0, (e, k m))
-
-  -- so of a script's pieces
-  pub not-masked : {ps : List Piece} (left : ℕ) → Sound ps → (writeNumber (answer 0 left (map unstarted ps)) ≡ 5 → ⊥) →
-      NoneHold (pieceRows 0 left (map unstarted ps))
-  not-masked {ps} left h n = none-masked 0 left (map unstarted ps) (none-bad h) n
+    go : (b : Bool) → r .fault ≡ b → (writeNumber (cond b (r .said) rest) ≡ 5 → ⊥) →
+        ((writeNumber rest ≡ 5 → ⊥) → NoneHold rs) → NoneHold (r ∷ rs)
+    go true f k g = absurd (k (m .0 f))
+    go false f k g = (f, g k)
 
 -- ---- end to end
 -- of masks that lie end to end no test holds, and the new starts are the old ones

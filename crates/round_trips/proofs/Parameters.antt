@@ -39,20 +39,15 @@ abbrev HeldPairs : List Blue → Type 0
 HeldPairs [] = Unit {0}
 HeldPairs (b ∷ bs) = Held (b .bottom) × (Held (b .top) × HeldPairs bs)
 
--- where every place has such a pair, all pairs are
-held-pairs : (bs : List Blue) → ((i : ℕ) → i < length bs → Held (getD bs i noBlue .bottom)) →
-    ((i : ℕ) → i < length bs → Held (getD bs i noBlue .top)) → HeldPairs bs
-held-pairs [] f g = tt
-held-pairs (b ∷ bs) f g = (
+-- where every place has such a pair, the first n are
+held-pairs : (n : ℕ) (bs : List Blue) → ((i : ℕ) → i < length bs → Held (getD bs i noBlue .bottom)) →
+    ((i : ℕ) → i < length bs → Held (getD bs i noBlue .top)) → HeldPairs (take n bs)
+held-pairs zero bs f g = tt
+held-pairs (suc n) [] f g = tt
+held-pairs (suc n) (b ∷ bs) f g = (
   f 0 (omega arith),
-  (g 0 (omega arith), held-pairs bs (λ i l. f (suc i) (omega arith)) (λ i l. g (suc i) (omega arith))),
+  (g 0 (omega arith), held-pairs n bs (λ i l. f (suc i) (omega arith)) (λ i l. g (suc i) (omega arith))),
 )
-
--- and so are the first of them
-held-take : (n : ℕ) (bs : List Blue) → HeldPairs bs → HeldPairs (take n bs)
-held-take zero bs h = tt
-held-take (suc n) [] h = tt
-held-take (suc n) (b ∷ bs) h = (h .0, (h .1 .0, held-take n bs (h .1 .1)))
 
 -- their words are below 2^32
 pairs-small : (bs : List Blue) → Small (pairWords bs)
@@ -86,9 +81,9 @@ blues-back : (w : ℕ → ℕ) (i n : ℕ) (b : Blues) → HeldBlues b → b .co
     Holds w i (wordsOf b) → bluesAt w i n ≡ keptBlues b
 unfolding bluesAt
 blues-back w i n b h l e k =
-    let held = held-pairs (b .pairs) (λ j m. h .bottoms j (omega (arith, h .seven)))
+    let held = held-pairs (b .count) (b .pairs) (λ j m. h .bottoms j (omega (arith, h .seven)))
     (λ j m. h .tops j (omega (arith, h .seven))) in
-    let all = pairs-back w i (listOf b) (held-take (b .count) (b .pairs) held) k in
+    let all = pairs-back w i (listOf b) held k in
     let there : pairsFrom w i (b .count) ≡ listOf b = ap (pairsFrom w i) (sym (list-length b (h .seven) l)) ∙ all in
     rw (e, there)
 
