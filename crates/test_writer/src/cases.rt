@@ -3,6 +3,9 @@ use crate::judging::Verdict;
 use crate::lending::fill_words;
 use io::read_full;
 
+// The bytes of the nine words that start a case.
+pub(crate) const HEAD: usize = 36;
+
 // There is place for more words and bytes than a script may have.
 pub(crate) const HELD_WORDS: usize = 16400;
 

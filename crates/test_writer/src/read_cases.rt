@@ -10,14 +10,17 @@ use words::natural;
 ghost use Prim.Native.Nat.{_*_, _≤_};
 ghost use lib.ListN.{length};
 
-pub(crate) fn read_case(file: i32) -> Seen {
+pub(crate) fn read_case(file: i32, head: &[u8]) -> Seen
+    requires { ⌜ 36 ≤ length (now head) ⌝ }
+{
     let mut script = [0u8; HELD_BYTES];
     let mut words = [0u8; HELD_BYTES];
     let mut bytes = [0u8; HELD_BYTES];
     let mut commands = [0i32; HELD_WORDS];
     let mut masks = [0u8; HELD_BYTES];
-    read_head(
+    read_sized(
         file,
+        head,
         &mut script,
         &mut words,
         &mut bytes,
@@ -26,22 +29,21 @@ pub(crate) fn read_case(file: i32) -> Seen {
     )
 }
 
-// Reads the words that say how long each part is.
-fn read_head(
+// Takes as much of each buffer as the case says.
+fn read_sized(
     file: i32,
+    head: &[u8],
     script: &mut [u8],
     words: &mut [u8],
     bytes: &mut [u8],
     commands: &mut [i32],
     masks: &mut [u8],
-) -> Seen {
-    let mut head = [0u8; read_row::HEAD];
-    if !read_bytes(file, &mut head) {
-        return Seen::Cut;
-    }
-    let size = natural(&head, read_row::SCRIPT);
-    let room_words = natural(&head, read_row::ROOM_WORDS);
-    let room_bytes = natural(&head, read_row::ROOM_BYTES);
+) -> Seen
+    requires { ⌜ 36 ≤ length (now head) ⌝ }
+{
+    let size = natural(head, read_row::SCRIPT);
+    let room_words = natural(head, read_row::ROOM_WORDS);
+    let room_bytes = natural(head, read_row::ROOM_BYTES);
     let padded = 4 * ((size + 3) / 4);
     let words_end = 4 * room_words;
     let bytes_end = 4 * ((room_bytes + 3) / 4);
@@ -53,7 +55,7 @@ fn read_head(
     }
     read_parts(
         file,
-        &head,
+        head,
         size,
         &mut script[..padded],
         &mut words[..words_end],

@@ -18,8 +18,5 @@ pub(crate) const MASKS: usize = 7;
 
 pub(crate) const SCALE: usize = 8;
 
-// The bytes of all nine.
-pub(crate) const HEAD: usize = 36;
-
 // The parameters are as many words as there can be.
 pub(crate) const PARAMS: usize = 64;

@@ -1,5 +1,7 @@
 // What the program says.
+use crate::cases::HEAD;
 use crate::cases::Seen;
+use crate::cases::read_bytes;
 use crate::judging::Verdict;
 use crate::read_cases::read_case;
 use crate::write_cases::write_case;
@@ -36,6 +38,12 @@ impl Tally {
 }
 
 pub(crate) fn tables(file: i32) {
+    written_tables(file);
+    read_tables(file);
+    end(file);
+}
+
+fn written_tables(file: i32) {
     table(Cases::Written, b"by hand", file);
     table(Cases::Written, b"scale and counts", file);
     table(Cases::Written, b"commands", file);
@@ -47,10 +55,12 @@ pub(crate) fn tables(file: i32) {
     table(Cases::Written, b"parameters", file);
     table(Cases::Written, b"glyphs", file);
     table(Cases::Written, b"written again", file);
+}
+
+fn read_tables(file: i32) {
     table(Cases::Read, b"read back", file);
     table(Cases::Read, b"read refused", file);
     table(Cases::Read, b"read rooms", file);
-    end(file);
 }
 
 // Runs as many cases as the next word says, and says how many differ.
@@ -88,9 +98,13 @@ fn run(cases: Cases, file: i32, count: usize) -> Tally {
 }
 
 fn case(cases: Cases, file: i32) -> Seen {
+    let mut head = [0u8; HEAD];
+    if !read_bytes(file, &mut head) {
+        return Seen::Cut;
+    }
     match cases {
-        Cases::Written => write_case(file),
-        Cases::Read => read_case(file),
+        Cases::Written => write_case(file, &head),
+        Cases::Read => read_case(file, &head),
     }
 }
 

@@ -13,14 +13,17 @@ ghost use lib.ListN.{length};
 // There is place for more parameters than are read.
 const HELD_PARAMS: usize = 72;
 
-pub(crate) fn write_case(file: i32) -> Seen {
+pub(crate) fn write_case(file: i32, head: &[u8]) -> Seen
+    requires { ⌜ 36 ≤ length (now head) ⌝ }
+{
     let mut params = [0i32; HELD_PARAMS];
     let mut commands = [0i32; HELD_WORDS];
     let mut masks = [0u8; HELD_BYTES];
     let mut stored = [0u8; HELD_BYTES];
     let mut script = [0u8; HELD_BYTES];
-    read_case(
+    read_sized(
         file,
+        head,
         &mut params,
         &mut commands,
         &mut masks,
@@ -29,23 +32,22 @@ pub(crate) fn write_case(file: i32) -> Seen {
     )
 }
 
-// Reads the words that say how long each part is.
-fn read_case(
+// Takes as much of each buffer as the case says.
+fn read_sized(
     file: i32,
+    head: &[u8],
     params: &mut [i32],
     commands: &mut [i32],
     masks: &mut [u8],
     stored: &mut [u8],
     script: &mut [u8],
-) -> Seen {
-    let mut head = [0u8; write_row::HEAD];
-    if !read_bytes(file, &mut head) {
-        return Seen::Cut;
-    }
-    let words = natural(&head, write_row::PARAMS);
-    let count = natural(&head, write_row::COMMANDS);
-    let bytes = natural(&head, write_row::MASKS);
-    let room = natural(&head, write_row::ROOM);
+) -> Seen
+    requires { ⌜ 36 ≤ length (now head) ⌝ }
+{
+    let words = natural(head, write_row::PARAMS);
+    let count = natural(head, write_row::COMMANDS);
+    let bytes = natural(head, write_row::MASKS);
+    let room = natural(head, write_row::ROOM);
     let padded = 4 * ((bytes + 3) / 4);
     let end = 4 * ((room + 3) / 4);
     if params.len() < words || commands.len() < count || masks.len() < padded {
@@ -56,7 +58,7 @@ fn read_case(
     }
     read_parts(
         file,
-        &head,
+        head,
         bytes,
         &mut params[..words],
         &mut commands[..count],

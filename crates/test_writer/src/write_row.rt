@@ -17,6 +17,3 @@ pub(crate) const PLACE: usize = 6;
 pub(crate) const WRITTEN: usize = 7;
 
 pub(crate) const SCALE: usize = 8;
-
-// The bytes of all nine.
-pub(crate) const HEAD: usize = 36;
