@@ -1,4 +1,4 @@
 pub mod Reading
-pub mod Answering
+pub mod AskedAnswers
 pub mod Output
 pub mod Unique

@@ -14,7 +14,7 @@ use Rattle.writer.specs.declared.write_answer.WriteAnswer.{WriteAnswer}
 use Rattle.writer.specs.Given.{scriptFor}
 use Rattle.writer.specs.Refusals.{writeNumber, writePlace, writtenBytes, writeRefuses, over, bufferBy, Wrote}
 use Rattle.assemble.specs.Asked.{askedIn, answerTo, answerIn, programBytes, AtStart}
-use Rattle.assemble.proofs.Answering.{counted}
+use Rattle.assemble.proofs.AskedAnswers.{counted}
 
 -- what is written over the first bytes of some is written over all of them
 over-part : (xs l : List ℕ) (k : ℕ) → length xs ≤ k → k ≤ length l → over xs (take k l) ++ drop k l ≡ over xs l

@@ -1,3 +1,3 @@
-pub mod Answering
+pub mod AnswerWords
 pub mod Program
 pub mod Unique

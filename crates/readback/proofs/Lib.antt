@@ -1,5 +1,5 @@
 pub mod Accepted
 pub mod Placing
-pub mod Rooms
+pub mod ReadRooms
 pub mod Shortened
 pub mod Unique

@@ -25,12 +25,12 @@ use Rattle.writer.specs.Given.{Given, piecesIn, commandWords, scriptFor}
 use Rattle.writer.specs.Refusals.{WriteResult, writeNumber, givenRows, pieceRows, roomRow, writeRows, writeAnswer, over}
 use Rattle.writer.specs.Refusals.{writeOf}
 use Rattle.writer.proofs.Cutting.{joined-pieces, pieces-joined}
-use Rattle.writer.proofs.Faults.{NoneHold, none-both, none-onward, none-answer}
+use Rattle.writer.proofs.PieceFaults.{NoneHold, none-both, none-onward, none-answer}
 use Rattle.writer.proofs.Sizes.{script-length}
 use Rattle.writer.proofs.Answering.{before, by-room, unrefused}
 use Rattle.readback.specs.ReadBack.{wordsFrom, scriptPieces, shortened, givenIn}
 use Rattle.readback.proofs.Shortened.{words-length}
-use Rattle.readback.proofs.Rooms.{masks-length}
+use Rattle.readback.proofs.ReadRooms.{masks-length}
 use Rattle.round_trips.specs.RoundTrips.{Bytes, EndToEnd, WrittenAgain}
 use Rattle.round_trips.proofs.WordBytes.{all-bits}
 use Rattle.round_trips.proofs.EndToEnd.{Sound, bare-whole, bare-small, same-length, masked, none-masked}

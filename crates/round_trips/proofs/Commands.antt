@@ -23,7 +23,7 @@ use Rattle.writer.specs.Pieces.{Piece, pieceWords, joined, Whole, isMask, given
 use Rattle.writer.specs.Pieces.{startsFrom}
 use Rattle.writer.specs.Refusals.{badPiece, tooLong, pieceRows}
 use Rattle.writer.proofs.Cutting.{mask-two, started-whole}
-use Rattle.writer.proofs.Faults.{NoneHold, taken-left}
+use Rattle.writer.proofs.PieceFaults.{NoneHold, taken-left}
 use Rattle.readback.specs.ReadBack.{wordsFrom, scriptPieces, scriptPiece}
 use Rattle.readback.proofs.Accepted.{raw-drop, read-fine, behind, along-commands, pieces, next-pieces}
 use Rattle.readback.proofs.Shortened.{words-length, all-left, none-left}

@@ -14,7 +14,7 @@ use Rattle.commands.specs.Commands.{operandsOf}
 use Rattle.writer.specs.declared.write_answer.WriteAnswer.{WriteAnswer}
 use Rattle.writer.specs.Pieces.{Piece, joined, Whole, isMask, givenOperands, startsFrom, unstarted}
 use Rattle.writer.specs.Refusals.{writeNumber, pieceRows}
-use Rattle.writer.proofs.Faults.{NoneHold, taken-left}
+use Rattle.writer.proofs.PieceFaults.{NoneHold, taken-left}
 use Rattle.round_trips.specs.RoundTrips.{Part, LieFrom}
 use Rattle.round_trips.proofs.WordBytes.{Small, small-both}
 

@@ -31,7 +31,7 @@ use Rattle.writer.proofs.Sizes.{words-length, script-length}
 use Rattle.writer.proofs.Answering.{Unrefused}
 use Rattle.readback.specs.ReadBack.{wordsFrom, givenIn}
 use Rattle.readback.proofs.Accepted.{raw-drop}
-use Rattle.readback.proofs.Rooms.{masks-length}
+use Rattle.readback.proofs.ReadRooms.{masks-length}
 use Rattle.readback.proofs.Shortened.{words-length as from-length, words-split}
 use Rattle.round_trips.specs.RoundTrips.{Bytes}
 use Rattle.round_trips.proofs.WordBytes.{Small, small-both, bits-small, Holds, holds-front, holds-back}

@@ -15,7 +15,7 @@ use Rattle.writer.specs.Pieces.{Piece, piecesBy, piecesOf, pieceWords, joined, 
 use Rattle.writer.specs.Pieces.{bytesTaken, started, startsFrom, unstarted}
 use Rattle.writer.specs.Refusals.{pieceRows}
 use Rattle.writer.proofs.Cutting.{started-whole}
-use Rattle.writer.proofs.Faults.{NoneHold, taken-left}
+use Rattle.writer.proofs.PieceFaults.{NoneHold, taken-left}
 use Rattle.round_trips.proofs.WordBytes.{Small, small-front, small-back, small-both}
 
 -- ---- whole pieces

@@ -26,7 +26,7 @@ use Rattle.writer.specs.Pieces.{Piece, piecesOf, joined, givenOperands, startsF
 use Rattle.writer.specs.Given.{Given, numberWords, paramWords, piecesIn, commandWords, paddedBytes, scriptFor}
 use Rattle.writer.specs.Refusals.{writeRefuses, writeAnswer}
 use Rattle.writer.proofs.Cutting.{joined-pieces, pieces-joined}
-use Rattle.writer.proofs.Faults.{NoneHold, none-both, none-answer}
+use Rattle.writer.proofs.PieceFaults.{NoneHold, none-both, none-answer}
 use Rattle.writer.proofs.Laying.{params-length}
 use Rattle.writer.proofs.Sizes.{script-length}
 use Rattle.writer.proofs.Answering.{Unrefused, unrefused}

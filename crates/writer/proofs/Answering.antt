@@ -18,8 +18,8 @@ use Rattle.writer.specs.declared.write_answer.WriteAnswer.the-variants.{
 use Rattle.writer.specs.Given.{Given, piecesIn, scriptFor}
 use Rattle.writer.specs.Refusals.{writeNumber, writeRefuses, givenRows, pieceRows, roomRow, writeRows}
 use Rattle.writer.specs.Refusals.{writeAnswer, over, bufferBy, writeOf, Wrote, FineParams}
-use Rattle.writer.proofs.Faults.{Refuse, given-refuse, pieces-refuse, not-fine, none-hold, fine-is, NoneHold}
-use Rattle.writer.proofs.Faults.{none-front, none-back, none-onward, none-answer, counts-fine}
+use Rattle.writer.proofs.PieceFaults.{Refuse, given-refuse, pieces-refuse, not-fine, none-hold, fine-is, NoneHold}
+use Rattle.writer.proofs.PieceFaults.{none-front, none-back, none-onward, none-answer, counts-fine}
 
 -- tests in two lists refuse if those of each do
 refuse-both : (rs qs : List (Row WriteAnswer)) → Refuse rs → Refuse qs → Refuse (rs ++ qs)

@@ -1,5 +1,5 @@
 pub mod Cutting
-pub mod Faults
+pub mod PieceFaults
 pub mod Laying
 pub mod Padding
 pub mod Walking

@@ -17,8 +17,8 @@ use Rattle.writer.specs.Pieces.{started, startsFrom}
 use Rattle.writer.specs.Given.{commandWords}
 use Rattle.writer.specs.Refusals.{writeNumber, badPiece, tooLong, pieceRows, FineCommands}
 use Rattle.writer.proofs.Cutting.{piece-at, no-pieces, started-whole}
-use Rattle.writer.proofs.Faults.{found, nextPiece, found-next, piece-there, piece-words, taken-left, none-hold}
-use Rattle.writer.proofs.Faults.{pieces-refuse}
+use Rattle.writer.proofs.PieceFaults.{found, nextPiece, found-next, piece-there, piece-words, taken-left, none-hold}
+use Rattle.writer.proofs.PieceFaults.{pieces-refuse}
 
 -- ---- what is left has no fault
 pub record Sound (ws : List ℕ) (i start : ℕ) : Type 0 where

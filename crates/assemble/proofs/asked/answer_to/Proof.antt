@@ -1,7 +1,7 @@
 -- `answer_to` refuses counts that are too high, and else answers as the writer. Assumes nothing.
 use native.Mathlib.Omega.{arith}
 use borrow.Author.Needs.{needs}
-use Rattle.assemble.proofs.Answering.{many-commands, many-masks, not-looked, looked}
+use Rattle.assemble.proofs.AskedAnswers.{many-commands, many-masks, not-looked, looked}
 use Rattle.assemble.proofs.asked.answer_to.Statement.{statement}
 use Rattle.assemble.proofs.asked.answer_to.Tie as tie
 

@@ -14,7 +14,7 @@ use Rattle.words.specs.Answers.{numberOf, placeOf}
 use Rattle.words.specs.Bytes.{laid}
 use Rattle.words.proofs.Laid.{laid-length, laid-behind, low-laid}
 use Rattle.hint.specs.Encode.{resultIn}
-use Rattle.hint.proofs.Answering.{refused-words, ok-words, result-taken, result-short}
+use Rattle.hint.proofs.AnswerWords.{refused-words, ok-words, result-taken, result-short}
 use Rattle.hint.proofs.encode.answered.Statement.{statement}
 use Rattle.hint.proofs.encode.answered.Tie as tie
 

@@ -8,7 +8,7 @@ use Rattle.writer.specs.Pieces.{Piece}
 use Rattle.script.proofs.Passed.{passed}
 use Rattle.readback.specs.ReadBack.{scriptPieces, shortened}
 use Rattle.readback.proofs.Accepted.{whole-commands}
-use Rattle.readback.proofs.Rooms.{pieces-are, few-words, few-bytes, enough}
+use Rattle.readback.proofs.ReadRooms.{pieces-are, few-words, few-bytes, enough}
 use Rattle.readback.proofs.reading_back.check_room.Statement.{statement}
 use Rattle.readback.proofs.reading_back.check_room.Tie as tie
 

@@ -17,8 +17,8 @@ use Rattle.script.specs.Script.{checkRows}
 use Rattle.script.proofs.Passed.{Passed, passed}
 use Rattle.readback.specs.ReadBack.{wordsFrom, scriptPieces, shortened, givenIn, WholeCommands}
 use Rattle.readback.proofs.Accepted.{whole-commands}
-use Rattle.readback.proofs.Rooms.{pieces-are, commands-length, masks-length, accepted, words-fit, bytes-fit}
-use Rattle.readback.proofs.Rooms.{said-is}
+use Rattle.readback.proofs.ReadRooms.{pieces-are, commands-length, masks-length, accepted, words-fit, bytes-fit}
+use Rattle.readback.proofs.ReadRooms.{said-is}
 use Rattle.readback.proofs.reading_back.copied.Statement.{statement}
 use Rattle.readback.proofs.reading_back.copied.Tie as tie
 

@@ -10,7 +10,7 @@ use Rattle.words.specs.Answers.{firstOf, numberOf}
 use Rattle.words.proofs.Answers.{refusal, is-ok}
 use Rattle.script.specs.Script.{checkRows}
 use Rattle.readback.specs.ReadBack.{readRows}
-use Rattle.readback.proofs.Rooms.{by-fault, read-refused, read-given}
+use Rattle.readback.proofs.ReadRooms.{by-fault, read-refused, read-given}
 use Rattle.readback.proofs.reading_back.read_back.Statement.{statement}
 use Rattle.readback.proofs.reading_back.read_back.Tie as tie
 

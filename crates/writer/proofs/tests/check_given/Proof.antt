@@ -6,7 +6,7 @@ use Rattle.words.proofs.Rows.{found, onward}
 use Rattle.writer.specs.declared.write_answer.WriteAnswer.the-variants.{Written}
 use Rattle.writer.specs.Given.{piecesIn}
 use Rattle.writer.specs.Refusals.{writeNumber, givenRows, pieceRows}
-use Rattle.writer.proofs.Faults.{not-fine, given-refuse, refusing, fine-is}
+use Rattle.writer.proofs.PieceFaults.{not-fine, given-refuse, refusing, fine-is}
 use Rattle.writer.proofs.tests.check_given.Statement.{statement}
 use Rattle.writer.proofs.tests.check_given.Tie as tie
 
