@@ -14,7 +14,7 @@ use Rattle.header.proofs.Tests.{both-false}
 use Rattle.writer.specs.declared.write_answer.WriteAnswer.{WriteAnswer}
 use Rattle.writer.specs.declared.write_answer.WriteAnswer.the-variants.{Written, BadScale, BadBlues, BadCommand}
 use Rattle.writer.specs.declared.write_answer.WriteAnswer.the-variants.{BadMask, ScriptRoom}
-use Rattle.writer.specs.Given.{Given, scriptFor}
+use Rattle.writer.specs.ToWrite.{Given, scriptFor}
 use Rattle.writer.specs.Refusals.{writeNumber, writtenBytes, writeRefuses, roomRow, writeAnswer, bufferBy}
 use Rattle.writer.specs.Refusals.{writeOf, Wrote}
 use Rattle.writer.proofs.Answering.{before, before-fine, refused-before, by-room}

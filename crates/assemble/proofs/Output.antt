@@ -11,7 +11,7 @@ use borrow.Rule.Slice.PartMut.{putMid}
 use Rattle.words.specs.Bytes.{bytesOf, laid}
 use Rattle.words.proofs.Laid.{bytes-length, laid-behind, low-laid}
 use Rattle.writer.specs.declared.write_answer.WriteAnswer.{WriteAnswer}
-use Rattle.writer.specs.Given.{scriptFor}
+use Rattle.writer.specs.ToWrite.{scriptFor}
 use Rattle.writer.specs.Refusals.{writeNumber, writePlace, writtenBytes, writeRefuses, over, bufferBy, Wrote}
 use Rattle.assemble.specs.Asked.{askedIn, answerTo, answerIn, programBytes, AtStart}
 use Rattle.assemble.proofs.AskedAnswers.{counted}

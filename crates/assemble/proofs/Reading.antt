@@ -9,7 +9,7 @@ use lib.ListN.{take, drop}
 use Rattle.fixed.specs.declared.Fixed.{Fixed}
 use Rattle.zones.specs.declared.state.HintParams.{HintParams}
 use Rattle.words.specs.Words.{rawAt, wordAt, numberAt}
-use Rattle.writer.specs.Given.{given}
+use Rattle.writer.specs.ToWrite.{given}
 use Rattle.writer.specs.ParamWords.{paramsIn}
 use Rattle.assemble.specs.Asked.{wordsFrom, askedBy}
 

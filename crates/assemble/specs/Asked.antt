@@ -11,7 +11,7 @@ use Rattle.words.specs.Bytes.{bytesOf}
 use Rattle.words.specs.Words.{rawAt, wordAt, numberAt}
 use Rattle.writer.specs.declared.write_answer.WriteAnswer.{WriteAnswer}
 use Rattle.writer.specs.declared.write_answer.WriteAnswer.the-variants.{ScriptRoom}
-use Rattle.writer.specs.Given.{Given, given, scriptFor}
+use Rattle.writer.specs.ToWrite.{Given, given, scriptFor}
 use Rattle.writer.specs.ParamWords.{paramsIn}
 use Rattle.writer.specs.Refusals.{writeNumber, writePlace, writeRefuses, writeAnswer, WriteResult, over, bufferBy}
 

@@ -28,7 +28,7 @@ use Rattle.commands.specs.Commands.{operandsOf}
 use Rattle.commands.specs.Faults.{commandRows}
 use Rattle.commands.proofs.Laws.{rows-refusing}
 use Rattle.writer.specs.Pieces.{piecesOf}
-use Rattle.writer.specs.Given.{Given}
+use Rattle.writer.specs.ToWrite.{Given}
 use Rattle.script.specs.Script.{commandsIn, checkRows}
 use Rattle.script.proofs.Passed.{passed}
 use Rattle.script.proofs.Results.{refused}

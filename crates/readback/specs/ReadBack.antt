@@ -20,7 +20,7 @@ use Rattle.header.specs.Params.{paramsOf}
 use Rattle.commands.specs.Commands.{operandsOf}
 use Rattle.script.specs.Script.{checkRows}
 use Rattle.writer.specs.Pieces.{Piece, piecesOf, joined, Whole, unstarted}
-use Rattle.writer.specs.Given.{Given, given}
+use Rattle.writer.specs.ToWrite.{Given, given}
 use Rattle.writer.specs.Refusals.{over}
 use Rattle.readback.specs.declared.reading_back.ReadBack.{ReadBack}
 

@@ -21,7 +21,7 @@ use Rattle.script.proofs.Passed.{passed}
 use Rattle.writer.specs.declared.write_answer.WriteAnswer.{WriteAnswer}
 use Rattle.writer.specs.declared.write_answer.WriteAnswer.the-variants.{Written}
 use Rattle.writer.specs.Pieces.{Piece, piecesOf, joined, startsFrom, givenOperands, unstarted}
-use Rattle.writer.specs.Given.{Given, piecesIn, commandWords, scriptFor}
+use Rattle.writer.specs.ToWrite.{Given, piecesIn, commandWords, scriptFor}
 use Rattle.writer.specs.Refusals.{WriteResult, writeNumber, givenRows, pieceRows, roomRow, writeRows, writeAnswer, over}
 use Rattle.writer.specs.Refusals.{writeOf}
 use Rattle.writer.proofs.Cutting.{joined-pieces, pieces-joined}

@@ -23,8 +23,8 @@ use Rattle.header.proofs.Tests.{both-false, alike}
 use Rattle.script.specs.Script.{checkRows}
 use Rattle.script.proofs.Passed.{Passed, passed}
 use Rattle.writer.specs.Pieces.{givenOperands}
-use Rattle.writer.specs.Given.{Given, numberWord, paramWords, piecesIn, commandWords, headerWords, scriptWords}
-use Rattle.writer.specs.Given.{paddedBytes, scriptFor}
+use Rattle.writer.specs.ToWrite.{Given, numberWord, paramWords, piecesIn, commandWords, headerWords, scriptWords}
+use Rattle.writer.specs.ToWrite.{paddedBytes, scriptFor}
 use Rattle.writer.proofs.Cutting.{joined-pieces}
 use Rattle.writer.proofs.Laying.{signed-bits}
 use Rattle.writer.proofs.Sizes.{words-length, script-length}

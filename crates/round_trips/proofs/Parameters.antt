@@ -16,7 +16,7 @@ use Rattle.zones.specs.declared.state.HintParams.{HintParams}
 use Rattle.zones.specs.Zones.{maxBlues, noBlue, listOf}
 use Rattle.words.specs.Words.{wordAt, numberAt}
 use Rattle.header.specs.Params.{pairsIn, pairsFrom, bluesAt, paramsOf}
-use Rattle.writer.specs.Given.{numberWord, pairWords, numberWords, paramWords}
+use Rattle.writer.specs.ToWrite.{numberWord, pairWords, numberWords, paramWords}
 use Rattle.writer.specs.Refusals.{FineParams}
 use Rattle.writer.proofs.Laying.{Sevens, list-length, list-words, signed-bits}
 use Rattle.readback.specs.ReadBack.{wordsFrom}

@@ -23,7 +23,7 @@ use Rattle.commands.specs.Faults.{commandRows}
 use Rattle.commands.proofs.Laws.{from-start}
 use Rattle.script.specs.Script.{commandsIn, checkRows}
 use Rattle.writer.specs.Pieces.{Piece, piecesOf, joined, givenOperands, startsFrom}
-use Rattle.writer.specs.Given.{Given, numberWords, paramWords, piecesIn, commandWords, paddedBytes, scriptFor}
+use Rattle.writer.specs.ToWrite.{Given, numberWords, paramWords, piecesIn, commandWords, paddedBytes, scriptFor}
 use Rattle.writer.specs.Refusals.{writeRefuses, writeAnswer}
 use Rattle.writer.proofs.Cutting.{joined-pieces, pieces-joined}
 use Rattle.writer.proofs.PieceFaults.{NoneHold, none-both, none-answer}

@@ -20,7 +20,7 @@ use Rattle.commands.specs.declared.reading.Command.the-variants.{Mark, Draw}
 use Rattle.commands.specs.Commands.{CommandAt}
 use Rattle.script.specs.Script.{commandsIn, checkRows}
 use Rattle.writer.specs.declared.write_answer.WriteAnswer.the-variants.{Written}
-use Rattle.writer.specs.Given.{Given, given, scriptFor}
+use Rattle.writer.specs.ToWrite.{Given, given, scriptFor}
 use Rattle.writer.specs.Refusals.{over, writeOf}
 use Rattle.readback.specs.ReadBack.{givenIn}
 

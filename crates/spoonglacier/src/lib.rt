@@ -2,7 +2,7 @@
 use fixed::Fixed;
 ghost use Rattle.fixed.specs.Fixed.{fromBits};
 ghost use Rattle.script.specs.Script.{scriptOf};
-ghost use Rattle.writer.specs.Given.{given};
+ghost use Rattle.writer.specs.ToWrite.{given};
 ghost use Rattle.writer.specs.ParamWords.{paramsIn};
 ghost use Rattle.writer.specs.Refusals.{writeOf};
 ghost use Rattle.spoonglacier.specs.Exported.{Returned, WriteReturned};

@@ -17,7 +17,7 @@ ghost use mathlib.Core.Path.{_≡_};
 ghost use Prim.Native.Nat.{_*_, _≤_};
 ghost use lib.ListN.{length, getD};
 ghost use Rattle.words.specs.Words.{rawAt, numberAt};
-ghost use Rattle.writer.specs.Given.{given};
+ghost use Rattle.writer.specs.ToWrite.{given};
 ghost use Rattle.writer.specs.ParamWords.{paramsIn};
 ghost use Rattle.writer.specs.Refusals.{writeOf};
 ghost use Rattle.readback.specs.ReadBack.{readBackOf};

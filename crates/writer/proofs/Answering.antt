@@ -15,7 +15,7 @@ use Rattle.words.proofs.Rows.{found-else}
 use Rattle.header.proofs.Tests.{both-false}
 use Rattle.writer.specs.declared.write_answer.WriteAnswer.{WriteAnswer}
 use Rattle.writer.specs.declared.write_answer.WriteAnswer.the-variants.{Written, ScriptRoom}
-use Rattle.writer.specs.Given.{Given, piecesIn, scriptFor}
+use Rattle.writer.specs.ToWrite.{Given, piecesIn, scriptFor}
 use Rattle.writer.specs.Refusals.{writeNumber, writeRefuses, givenRows, pieceRows, roomRow, writeRows}
 use Rattle.writer.specs.Refusals.{writeAnswer, over, bufferBy, writeOf, Wrote, FineParams}
 use Rattle.writer.proofs.PieceFaults.{Refuse, given-refuse, pieces-refuse, not-fine, none-hold, fine-is, NoneHold}

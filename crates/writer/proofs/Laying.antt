@@ -15,7 +15,7 @@ use Rattle.zones.specs.declared.state.HintParams.{HintParams}
 use Rattle.zones.specs.Zones.{maxBlues, noBlue, listOf}
 use Rattle.words.specs.Bytes.{laid}
 use Rattle.words.proofs.Laid.{laid-behind}
-use Rattle.writer.specs.Given.{numberWord, pairWords, numberWords, paramWords}
+use Rattle.writer.specs.ToWrite.{numberWord, pairWords, numberWords, paramWords}
 use Rattle.writer.specs.Refusals.{FineParams}
 
 pub pair-words : (bs : List Blue) → length (pairWords bs) ≡ 2 * length bs

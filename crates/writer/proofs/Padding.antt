@@ -7,7 +7,7 @@ use native.Mathlib.Numerals.{add-one}
 use native.Mathlib.Omega.{arith}
 use lib.ListN.{length, take, drop, set, getD, replicate, length-append, length-replicate, length-drop}
 use lib.Seq.{set-at, take-all, take-suc, drop-cons, drop-at, drop-length, append-snoc, length-take-le}
-use Rattle.writer.specs.Given.{paddedBytes}
+use Rattle.writer.specs.ToWrite.{paddedBytes}
 use Rattle.header.specs.Header.{padded}
 
 abbrev none : ℕ

@@ -12,8 +12,8 @@ use Rattle.words.specs.Bytes.{bytesOf, laid}
 use Rattle.words.proofs.Laid.{bytes-length, laid-behind}
 use Rattle.header.specs.Header.{padded}
 use Rattle.writer.specs.Pieces.{givenOperands, masksIn}
-use Rattle.writer.specs.Given.{Given, piecesIn, paramWords, commandWords, headerWords, scriptWords, paddedBytes}
-use Rattle.writer.specs.Given.{scriptFor}
+use Rattle.writer.specs.ToWrite.{Given, piecesIn, paramWords, commandWords, headerWords, scriptWords, paddedBytes}
+use Rattle.writer.specs.ToWrite.{scriptFor}
 use Rattle.writer.specs.Refusals.{over}
 use Rattle.writer.proofs.Cutting.{joined-pieces, started-length}
 

@@ -14,7 +14,7 @@ use Rattle.commands.specs.Commands.{operandsOf}
 use Rattle.writer.specs.declared.write_answer.WriteAnswer.the-variants.{Written}
 use Rattle.writer.specs.Pieces.{Piece, piecesOf, pieceWords, joined, givenOperands, pieceAt, bytesTaken}
 use Rattle.writer.specs.Pieces.{started, startsFrom}
-use Rattle.writer.specs.Given.{commandWords}
+use Rattle.writer.specs.ToWrite.{commandWords}
 use Rattle.writer.specs.Refusals.{writeNumber, badPiece, tooLong, pieceRows, FineCommands}
 use Rattle.writer.proofs.Cutting.{piece-at, no-pieces, started-whole}
 use Rattle.writer.proofs.PieceFaults.{found, nextPiece, found-next, piece-there, piece-words, taken-left, none-hold}

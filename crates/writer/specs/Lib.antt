@@ -1,4 +1,4 @@
 pub mod Pieces
-pub mod Given
+pub mod ToWrite
 pub mod ParamWords
 pub mod Refusals

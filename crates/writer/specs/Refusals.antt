@@ -18,7 +18,7 @@ use Rattle.writer.specs.declared.write_answer.WriteAnswer.{WriteAnswer}
 use Rattle.writer.specs.declared.write_answer.WriteAnswer.the-variants.{Written, BadScale, BadBlues}
 use Rattle.writer.specs.declared.write_answer.WriteAnswer.the-variants.{BadCommand, BadMask, ScriptRoom}
 use Rattle.writer.specs.Pieces.{Piece, pieceWords, givenOperands, bytesTaken}
-use Rattle.writer.specs.Given.{Given, piecesIn, scriptFor}
+use Rattle.writer.specs.ToWrite.{Given, piecesIn, scriptFor}
 
 -- ---- answers
 -- 01's numbers, and 7 for SCRIPT_ROOM

@@ -22,8 +22,8 @@ ghost use Rattle.zones.specs.Zones.{maxBlues, listOf};
 ghost use Rattle.words.specs.Bytes.{laid};
 ghost use Rattle.header.specs.Header.{padded};
 ghost use Rattle.writer.specs.Pieces.{pieceAt, pieceWords, givenOperands, started};
-ghost use Rattle.writer.specs.Given.{pairWords, numberWords, paramWords, headerWords, commandWords};
-ghost use Rattle.writer.specs.Given.{paddedBytes};
+ghost use Rattle.writer.specs.ToWrite.{pairWords, numberWords, paramWords, headerWords, commandWords};
+ghost use Rattle.writer.specs.ToWrite.{paddedBytes};
 ghost use Rattle.writer.specs.Refusals.{FineCommands, FineParams};
 
 // The header, by the number of words of the parameters and of the commands, and that of the mask

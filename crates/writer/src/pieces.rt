@@ -7,7 +7,7 @@ ghost use Prim.Native.Nat.{_+_, _≤_, _<_};
 ghost use lib.ListN.{length, getD};
 ghost use Rattle.fixed.specs.Integers.{bitsOf};
 ghost use Rattle.writer.specs.Pieces.{isMask, givenOperands, bytesTaken, pieceAt, masksIn};
-ghost use Rattle.writer.specs.Given.{piecesIn};
+ghost use Rattle.writer.specs.ToWrite.{piecesIn};
 ghost use Rattle.writer.specs.Refusals.{badPiece};
 
 const HINT_MASK: usize = 2;

@@ -17,7 +17,7 @@ ghost use Rattle.zones.specs.Zones.{maxBlues};
 ghost use Rattle.words.specs.Rows.{firstOr};
 ghost use Rattle.header.specs.Header.{padded};
 ghost use Rattle.writer.specs.declared.write_answer.WriteAnswer.the-variants.{Written};
-ghost use Rattle.writer.specs.Given.{piecesIn};
+ghost use Rattle.writer.specs.ToWrite.{piecesIn};
 ghost use Rattle.writer.specs.Refusals.{givenRows, tooLong, pieceRows, roomRow};
 
 // 2^31, from which on 32 bits are negative.

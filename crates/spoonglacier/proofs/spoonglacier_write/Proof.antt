@@ -10,7 +10,7 @@ use Rattle.fixed.specs.declared.Fixed.{Fixed}
 use Rattle.fixed.specs.Fixed.{fromBits}
 use Rattle.zones.specs.declared.state.HintParams.{HintParams}
 use Rattle.writer.specs.declared.write_answer.WriteAnswer.{WriteAnswer}
-use Rattle.writer.specs.Given.{given}
+use Rattle.writer.specs.ToWrite.{given}
 use Rattle.writer.specs.Refusals.{writeNumber, writePlace, writtenBytes, writeOf, Wrote}
 use borrow.Author.Needs.{needs}
 use Rattle.spoonglacier.proofs.spoonglacier_write.Statement.{statement}

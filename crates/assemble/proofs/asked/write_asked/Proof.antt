@@ -5,7 +5,7 @@ use native.Mathlib.Omega.{arith}
 use lib.ListN.{take, drop}
 use lib.Seq.{length-take-le}
 use borrow.Author.Needs.{needs}
-use Rattle.writer.specs.Given.{Given}
+use Rattle.writer.specs.ToWrite.{Given}
 use Rattle.writer.specs.Refusals.{writeOf, Wrote}
 use Rattle.assemble.proofs.Reading.{given-asked}
 use Rattle.assemble.proofs.asked.write_asked.Statement.{statement}

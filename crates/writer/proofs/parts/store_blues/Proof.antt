@@ -10,7 +10,7 @@ use Rattle.zones.specs.declared.blues.Blue.{Blue}
 use Rattle.zones.specs.Zones.{noBlue}
 use Rattle.words.specs.Bytes.{laid}
 use Rattle.words.proofs.Laid.{laid-length, laid-behind, laid-none}
-use Rattle.writer.specs.Given.{pairWords}
+use Rattle.writer.specs.ToWrite.{pairWords}
 use Rattle.writer.proofs.Laying.{pair-words, one-pair}
 use Rattle.writer.proofs.parts.store_blues.Statement.{statement}
 use Rattle.writer.proofs.parts.store_blues.Tie as tie

@@ -12,7 +12,7 @@ use Rattle.words.specs.Bytes.{laid}
 use Rattle.words.proofs.Laid.{laid-none}
 use Rattle.commands.specs.Commands.{operandsOf}
 use Rattle.writer.specs.Pieces.{pieceWords, givenOperands, pieceAt, bytesTaken, started}
-use Rattle.writer.specs.Given.{commandWords}
+use Rattle.writer.specs.ToWrite.{commandWords}
 use Rattle.writer.proofs.PieceFaults.{nextPiece}
 use Rattle.writer.proofs.Walking.{Sound, sound-first, sound-there, sound-taken, sound-next, left, left-all}
 use Rattle.writer.proofs.Walking.{left-none, left-first, stored-words, turned}

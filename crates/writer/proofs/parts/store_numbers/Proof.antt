@@ -7,7 +7,7 @@ use mir.Val.{SFits, toZ, ofZ}
 use mir.Facts.{toZ-ofZ}
 use Rattle.fixed.specs.Integers.{bitsOf, signed}
 use Rattle.words.specs.Bytes.{laid}
-use Rattle.writer.specs.Given.{numberWords}
+use Rattle.writer.specs.ToWrite.{numberWords}
 use Rattle.writer.proofs.Laying.{signed-bits}
 use borrow.Author.Needs.{needs}
 use Rattle.writer.proofs.parts.store_numbers.Statement.{statement}

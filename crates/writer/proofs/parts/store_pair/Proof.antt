@@ -8,7 +8,7 @@ use mir.Val.{SFits}
 use mir.Facts.{toZ-ofZ}
 use Rattle.words.specs.Bytes.{laid}
 use Rattle.words.proofs.Laid.{laid-behind}
-use Rattle.writer.specs.Given.{pairWords}
+use Rattle.writer.specs.ToWrite.{pairWords}
 use borrow.Author.Needs.{needs}
 use Rattle.writer.proofs.parts.store_pair.Statement.{statement}
 use Rattle.writer.proofs.parts.store_pair.Tie as tie

@@ -9,7 +9,7 @@ use Rattle.zones.specs.declared.state.HintParams.{HintParams}
 use Rattle.zones.specs.Zones.{listOf}
 use Rattle.words.specs.Bytes.{laid}
 use Rattle.words.proofs.Laid.{laid-behind}
-use Rattle.writer.specs.Given.{pairWords, numberWords, paramWords}
+use Rattle.writer.specs.ToWrite.{pairWords, numberWords, paramWords}
 use Rattle.writer.proofs.Laying.{Sevens, params-length, params-laid}
 use Rattle.writer.proofs.parts.store_params.Statement.{statement}
 use Rattle.writer.proofs.parts.store_params.Tie as tie

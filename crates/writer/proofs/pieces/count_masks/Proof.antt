@@ -8,7 +8,7 @@ use lib.ListN.{length, drop, getD, length-map}
 use borrow.Author.Needs.{needs}
 use Rattle.fixed.specs.Integers.{bitsOf}
 use Rattle.writer.specs.Pieces.{piecesOf, isMask, givenOperands, masksIn}
-use Rattle.writer.specs.Given.{piecesIn}
+use Rattle.writer.specs.ToWrite.{piecesIn}
 use Rattle.writer.proofs.Cutting.{masks-at, masks-none, at-most-one}
 use Rattle.writer.proofs.pieces.count_masks.Statement.{statement}
 use Rattle.writer.proofs.pieces.count_masks.Tie as tie

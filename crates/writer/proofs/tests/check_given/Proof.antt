@@ -4,7 +4,7 @@ use native.Mathlib.Omega.{arith}
 use borrow.Author.Needs.{needs}
 use Rattle.words.proofs.Rows.{found, onward}
 use Rattle.writer.specs.declared.write_answer.WriteAnswer.the-variants.{Written}
-use Rattle.writer.specs.Given.{piecesIn}
+use Rattle.writer.specs.ToWrite.{piecesIn}
 use Rattle.writer.specs.Refusals.{writeNumber, givenRows, pieceRows}
 use Rattle.writer.proofs.PieceFaults.{not-fine, given-refuse, refusing, fine-is}
 use Rattle.writer.proofs.tests.check_given.Statement.{statement}

@@ -7,7 +7,7 @@ use lib.ListN.{length}
 use borrow.Author.Needs.{needs}
 use Rattle.words.specs.Bytes.{laid}
 use Rattle.header.specs.Header.{padded}
-use Rattle.writer.specs.Given.{Given, given, paramWords, commandWords, headerWords, scriptFor}
+use Rattle.writer.specs.ToWrite.{Given, given, paramWords, commandWords, headerWords, scriptFor}
 use Rattle.writer.specs.Refusals.{Writable}
 use Rattle.writer.proofs.Sizes.{commands-length, script-length, parts-over}
 use Rattle.writer.proofs.writing.write_parts.Statement.{statement}

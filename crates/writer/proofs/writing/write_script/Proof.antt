@@ -12,7 +12,7 @@ use Rattle.header.specs.Header.{padded}
 use Rattle.header.proofs.Tests.{both-false}
 use Rattle.writer.specs.declared.write_answer.WriteAnswer.{WriteAnswer}
 use Rattle.writer.specs.declared.write_answer.WriteAnswer.the-variants.{Written, ScriptRoom}
-use Rattle.writer.specs.Given.{Given, given, paramWords, commandWords, scriptFor}
+use Rattle.writer.specs.ToWrite.{Given, given, paramWords, commandWords, scriptFor}
 use Rattle.writer.specs.Refusals.{writeNumber, roomRow, writeAnswer}
 use Rattle.writer.proofs.Sizes.{commands-length, script-length}
 use Rattle.writer.proofs.Answering.{before, before-fine, fine-pieces, fine-params, refused-before, by-room}
