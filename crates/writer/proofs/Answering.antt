@@ -18,7 +18,8 @@ use Rattle.writer.specs.declared.write_answer.WriteAnswer.the-variants.{
 use Rattle.writer.specs.ToWrite.{Given, piecesIn, scriptFor}
 use Rattle.writer.specs.Refusals.{writeNumber, writeRefuses, givenRows, pieceRows, roomRow, writeRows}
 use Rattle.writer.specs.Refusals.{writeAnswer, over, bufferBy, writeOf, Wrote, FineParams}
-use Rattle.writer.proofs.PieceFaults.{Refuse, given-refuse, pieces-refuse, not-fine, none-hold, fine-is, NoneHold}
+use Rattle.writer.proofs.PieceFaults.{Refuse, given-refuse, pieces-refuse, not-fine, none-hold}
+use Rattle.writer.proofs.PieceFaults.{fine-is, NoneHold}
 use Rattle.writer.proofs.PieceFaults.{none-front, none-back, none-onward, none-answer, counts-fine}
 
 -- tests in two lists refuse if those of each do

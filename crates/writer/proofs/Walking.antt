@@ -17,7 +17,8 @@ use Rattle.writer.specs.Pieces.{started, startsFrom}
 use Rattle.writer.specs.ToWrite.{commandWords}
 use Rattle.writer.specs.Refusals.{writeNumber, badPiece, tooLong, pieceRows, FineCommands}
 use Rattle.writer.proofs.Cutting.{piece-at, no-pieces, started-whole}
-use Rattle.writer.proofs.PieceFaults.{found, nextPiece, found-next, piece-there, piece-words, taken-left, none-hold}
+use Rattle.writer.proofs.PieceFaults.{found, nextPiece, found-next, piece-there, piece-words}
+use Rattle.writer.proofs.PieceFaults.{taken-left, none-hold}
 use Rattle.writer.proofs.PieceFaults.{pieces-refuse}
 
 -- ---- what is left has no fault

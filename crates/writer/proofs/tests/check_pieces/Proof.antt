@@ -18,7 +18,8 @@ use Rattle.header.proofs.Tests.{both-false}
 use Rattle.writer.specs.Pieces.{givenOperands, pieceAt, bytesTaken}
 use Rattle.writer.specs.ToWrite.{piecesIn}
 use Rattle.writer.specs.Refusals.{badPiece, tooLong, pieceRows}
-use Rattle.writer.proofs.PieceFaults.{found, nextPiece, found-bad, found-long, found-next, found-end, piece-there}
+use Rattle.writer.proofs.PieceFaults.{found, nextPiece, found-bad, found-long, found-next}
+use Rattle.writer.proofs.PieceFaults.{found-end, piece-there}
 use Rattle.writer.proofs.tests.check_pieces.Statement.{statement}
 use Rattle.writer.proofs.tests.check_pieces.Tie as tie
 
