@@ -2,7 +2,8 @@
    its own that is filled with a pattern; the deepest byte that no longer holds the pattern says how
    much was used. The scripts are those of the files that are named, tables as crates/test_scripts reads
    them, and demanding ones that are made here: full lists of pairs, more stems than are kept, masks
-   that change between all strokes, and paths up to the longest script. */
+   that change between all strokes, and paths up to the longest script. Scripts up to the longest are
+   written too, with no pairs to all 28, and each kind of refusal is called for. */
 #include <stdint.h>
 #include <stdio.h>
 #include <stdlib.h>
@@ -32,18 +33,23 @@ static void call(void) {
     answer = spoonglacier_run(script, script_bytes, out, out_words, &place);
 }
 
-static void run(const uint8_t *bytes, size_t count, size_t words) {
-    script = bytes;
-    script_bytes = count;
-    out_words = words;
+/* Calls a function on the stack that is looked at. */
+static void on_stack(void (*function)(void)) {
     if (getcontext(&there) != 0)
         stop("no context");
     there.uc_stack.ss_sp = stack;
     there.uc_stack.ss_size = stack_bytes;
     there.uc_link = &back;
-    makecontext(&there, call, 0);
+    makecontext(&there, function, 0);
     if (swapcontext(&back, &there) != 0)
         stop("no context");
+}
+
+static void run(const uint8_t *bytes, size_t count, size_t words) {
+    script = bytes;
+    script_bytes = count;
+    out_words = words;
+    on_stack(call);
 }
 
 static void paint(void) {
@@ -194,7 +200,117 @@ static void made(void) {
     report("made here", scripts, fine);
 }
 
+/* ---- scripts that are written, from the words above without their header and parameters */
+enum { written_room = 2 * SPOONGLACIER_MOST_SCRIPT_BYTES, most_masks = SPOONGLACIER_MOST_SCRIPT_BYTES, lists = 4 };
+
+static int32_t scale, params[SPOONGLACIER_PARAMS_WORDS];
+static uint8_t mask_bytes[most_masks], written_script[written_room];
+static size_t params_words, masks_given, write_room, written;
+static int written_scripts, written_fine;
+
+static void write_call(void) {
+    answer = spoonglacier_write(scale, params, params_words, words, (size_t)count, mask_bytes, masks_given,
+                                written_script, write_room, &written, &place);
+}
+
+static void expect(uint32_t number) {
+    on_stack(write_call);
+    if (answer != number)
+        stop("a script that is to be written has another answer than it should");
+    written_scripts++;
+    written_fine += answer == SPOONGLACIER_OK;
+}
+
+/* Gives what is written as so many words in all, with so many pairs a list: stems, masks and strokes as
+   long as there is room, a mask after whose bytes three are missing to a word, and commands of one word. */
+static void give(int pairs, size_t size) {
+    size_t at = SPOONGLACIER_HEADER_WORDS + SPOONGLACIER_PARAMETER_WORDS + 2 * lists * (size_t)pairs, turn_words = 32;
+    int32_t fixed[] = {2597, 7 * one, one, 0, pairs, pairs, pairs, pairs};
+    scale = one;
+    params_words = SPOONGLACIER_PARAMS_WORDS;
+    for (int i = 0; i < SPOONGLACIER_PARAMS_WORDS; i++)
+        params[i] = i < SPOONGLACIER_PARAMETER_WORDS ? fixed[i] : i * one;
+    masks_given = 0;
+    for (count = 0; at + (masks_given + 3) / 4 + turn_words <= size; at += 20) {
+        put3(SPOONGLACIER_STEM, 16 * one, 80 * one);
+        put(count % 2 ? SPOONGLACIER_HINT_MASK : SPOONGLACIER_COUNTER_MASK);
+        put(SPOONGLACIER_MASK_BYTES + 1);
+        masks_given += SPOONGLACIER_MASK_BYTES + 1;
+        put3(SPOONGLACIER_MOVE, 0, 16 * one);
+        put3(SPOONGLACIER_LINE, 100 * one, 16 * one);
+        put(SPOONGLACIER_CURVE);
+        for (int i = 0; i < 6; i++)
+            put(i * one);
+        put(SPOONGLACIER_CLOSE);
+    }
+    if (count > 0) {
+        put(SPOONGLACIER_HINT_MASK);
+        put(5 - (int32_t)(masks_given % 4));
+        masks_given += 5 - masks_given % 4;
+        at += 3;
+    }
+    for (at += (masks_given + 3) / 4; at < size; at++)
+        put(SPOONGLACIER_CLEAR);
+    write_room = 4 * size;
+}
+
+/* Every refusal of what was given, one at a time. */
+static void refused(void) {
+    scale = 0;
+    expect(SPOONGLACIER_BAD_SCALE);
+    scale = one;
+    for (int i = lists; i < 2 * lists; i++) {
+        int32_t pairs = params[i];
+        params[i] = i % 2 ? -1 : SPOONGLACIER_MOST_PAIRS + 1;
+        expect(SPOONGLACIER_BAD_BLUES);
+        params[i] = pairs;
+    }
+    put(SPOONGLACIER_FINISH + 1);
+    expect(SPOONGLACIER_BAD_COMMAND);
+    words[count - 1] = SPOONGLACIER_CURVE;
+    expect(SPOONGLACIER_BAD_COMMAND);
+    words[count - 1] = SPOONGLACIER_HINT_MASK;
+    put(1);
+    expect(SPOONGLACIER_BAD_MASK);
+    words[count - 1] = -1;
+    expect(SPOONGLACIER_BAD_MASK);
+    count -= 2;
+    masks_given++;
+    expect(SPOONGLACIER_BAD_MASK);
+    masks_given--;
+    write_room--;
+    expect(SPOONGLACIER_SCRIPT_ROOM);
+    write_room++;
+}
+
+/* The first time, memcpy may still have to be found, which the dynamic linker does on the same stack. */
+static void made_to_write(const char *name) {
+    static const int pair_counts[] = {0, 1, SPOONGLACIER_MOST_PAIRS};
+    static const size_t sizes[] = {72, 80, 128, 1024, most_words - 1, most_words};
+    written_scripts = written_fine = 0;
+    paint();
+    for (size_t p = 0; p < sizeof pair_counts / sizeof *pair_counts; p++)
+        for (size_t s = 0; s < sizeof sizes / sizeof *sizes; s++) {
+            give(pair_counts[p], sizes[s]);
+            expect(SPOONGLACIER_OK);
+            if (written != write_room)
+                stop("a script that is written has another length than it should");
+            refused();
+            params_words = 0;
+            expect(SPOONGLACIER_OK);
+            params_words = SPOONGLACIER_PARAMS_WORDS;
+            if (sizes[s] == most_words) {
+                put(SPOONGLACIER_FINISH);
+                write_room = written_room;
+                expect(SPOONGLACIER_SCRIPT_ROOM);
+            }
+        }
+    report(name, written_scripts, written_fine);
+}
+
 int main(int argc, char **argv) {
+    made_to_write("spoonglacier_write, first calls");
+    made_to_write("spoonglacier_write");
     for (int i = 1; i < argc; i++)
         stored(argv[i]);
     made();

@@ -1,8 +1,10 @@
-/* Spoonglacier: hints the glyph that a script draws, and gives back its path as records.
+/* Spoonglacier: hints the glyph that a script draws, and gives back its path as records; and writes
+   scripts.
 
    Link target/staticlib/libspoonglacier.a, which `rt staticlib spoonglacier` makes: x86-64 code for
    Linux. docs/SCRIPT.md explains every word of a script and of a result, and how to link from C and
-   from Rust; examples/first.c is a whole program. */
+   from Rust; examples/first.c is a whole program, and examples/write.c writes a script and runs
+   it. */
 #ifndef SPOONGLACIER_H
 #define SPOONGLACIER_H
 
@@ -18,11 +20,12 @@ extern "C" {
    which some scripts have other answers (docs/RULES.md tells which); the second, releases that
    add names; the third, all other releases. */
 #define SPOONGLACIER_VERSION_MAJOR 0
-#define SPOONGLACIER_VERSION_MINOR 1
+#define SPOONGLACIER_VERSION_MINOR 2
 #define SPOONGLACIER_VERSION_PATCH 0
-#define SPOONGLACIER_VERSION "0.1.0"
+#define SPOONGLACIER_VERSION "0.2.0"
 
-/* What spoonglacier_run answers. */
+/* What the functions answer. Places are those of spoonglacier_run; spoonglacier_write has its own
+   below. */
 enum {
     SPOONGLACIER_OK = 0,          /* the result is in the output; place 0 */
     SPOONGLACIER_BAD_SCRIPT = 1,  /* length, header, padding or pairs; place: the word at fault, 0
@@ -31,8 +34,10 @@ enum {
     SPOONGLACIER_BAD_BLUES = 3,   /* a count outside 0 to 7; place: the first such word, 12 to 15 */
     SPOONGLACIER_BAD_COMMAND = 4, /* no such kind, or operands cut off; place: its kind word */
     SPOONGLACIER_BAD_MASK = 5,    /* not within the mask bytes; place: its kind word */
-    SPOONGLACIER_NO_ROOM = 6      /* records do not fit; place: the kind word of their command, or
+    SPOONGLACIER_NO_ROOM = 6,     /* records do not fit; place: the kind word of their command, or
                                      the value of word 4 if the output has under 4 words */
+    SPOONGLACIER_SCRIPT_ROOM = 7  /* spoonglacier_write: the script is longer than the buffer, or
+                                     than a script may be; place 0 */
 };
 
 /* Commands of a script: the kind word, and the operand words behind it. Points are x and y. */
@@ -101,6 +106,59 @@ enum {
    it at once, each with an output and a place of its own. */
 uint32_t spoonglacier_run(const uint8_t *script, size_t script_bytes, int32_t *out,
                           size_t out_words, size_t *place);
+
+/* The parameters that a script is written with: 64 words, the first `count` pairs of each list in
+   use. Heights, the blue scale, the shift and the fuzz are in 16.16. */
+typedef struct {
+    int32_t bottom, top;
+} spoonglacier_blue;
+
+typedef struct {
+    int32_t blue_scale, blue_shift, blue_fuzz, language_group;
+    int32_t blues_count, other_blues_count, family_blues_count, family_other_blues_count;
+    spoonglacier_blue blues[SPOONGLACIER_MOST_PAIRS];
+    spoonglacier_blue other_blues[SPOONGLACIER_MOST_PAIRS];
+    spoonglacier_blue family_blues[SPOONGLACIER_MOST_PAIRS];
+    spoonglacier_blue family_other_blues[SPOONGLACIER_MOST_PAIRS];
+} spoonglacier_params;
+
+/* The words of such a struct, to be handed over as `(const int32_t *)&params`. */
+#define SPOONGLACIER_PARAMS_WORDS 64
+
+/* Bytes that always suffice for a script with so many given command words and mask bytes. */
+#define SPOONGLACIER_SCRIPT_ROOM_FOR(command_words, mask_bytes) \
+    (4 * (SPOONGLACIER_HEADER_WORDS + SPOONGLACIER_PARAMS_WORDS + (command_words)) + \
+     2 * (command_words) + ((mask_bytes) + 3) / 4 * 4)
+
+/* Writes the script that says what is given at the start of a buffer, and answers one of the
+   numbers above, never BAD_SCRIPT or NO_ROOM.
+
+   scale     the scale in 16.16. Below 1 it is BAD_SCALE, place 1.
+   params    `params_words` words, of which the first 64 are read, as in spoonglacier_params. Words
+             that are missing count as 0. A count outside 0 to 7 is BAD_BLUES, place 12 to 15, the
+             word of a script where the first such count would stand. Pairs past a count are not
+             written.
+   commands  `command_words` words: kinds with their operands as in a script, but a mask, of either
+             kind, is its kind and its length, and no start. BAD_COMMAND is at the kind word's place
+             among these words, and so is BAD_MASK for a length that is negative or more than the
+             mask bytes that are left.
+   masks     `mask_bytes` bytes: those of the masks, one behind the other. Bytes that no mask takes
+             are a BAD_MASK at the place `command_words`.
+   script    `script_bytes` bytes of any number, which nobody else reads or writes during the call
+             and which overlap nothing that is given. On OK the script stands at their start, and
+             the bytes behind it are as they were. On every refusal no byte is changed.
+   written   where the number of bytes that were written is left; 0 if refused.
+   place     where the place is left; 0 on OK.
+
+   Refusals come in this order: the scale, the counts, the commands first to last, bytes left over,
+   SCRIPT_ROOM. Neither `written` nor `place` may be null or lie in a buffer, and they are two. A
+   length of 0 goes with any pointer, null included; pointers to words must be aligned as their
+   types ask. spoonglacier_run never answers the numbers 1 to 5 for what is written, which is
+   proved. Stack, threads and state are as for spoonglacier_run. */
+uint32_t spoonglacier_write(int32_t scale, const int32_t *params, size_t params_words,
+                            const int32_t *commands, size_t command_words, const uint8_t *masks,
+                            size_t mask_bytes, uint8_t *script, size_t script_bytes,
+                            size_t *written, size_t *place);
 
 #ifdef __cplusplus
 }

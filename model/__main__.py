@@ -6,7 +6,7 @@ from dataclasses import dataclass
 from pathlib import Path
 from types import ModuleType
 
-from .tables import calls, figures, maps, marked, scripts
+from .tables import calls, figures, maps, marked, scripts, writer, writer_laws
 from .tables.form import Disagreement, file_of
 
 ROOT = Path(__file__).resolve().parent.parent
@@ -30,6 +30,7 @@ STORED = [
     Stored(maps, "test_maps", "stdin", counts_before=1),
     Stored(calls, "test_calls", "stdin"),
     Stored(scripts, "test_scripts", "data/scripts.bin"),
+    Stored(writer, "test_writer", "data/writer.bin"),
 ]
 
 
@@ -37,10 +38,16 @@ def say(path, verdict):
     print(f"{path.relative_to(ROOT)}: {verdict}")
 
 
-def holds_to_01():
-    """Whether the model gives what 01 says in figures."""
-    count, differing = marked.differing()
-    print(f"figures that 01 marks, and its whole case: {count} tried, {len(differing)} differ")
+HELD_TO = {
+    "figures that 01 marks, and its whole case": marked,
+    "what 02 says of scripts that are written and read back": writer_laws,
+}
+
+
+def holds_to(what, figures):
+    """Whether the model gives what 01 or 02 says."""
+    count, differing = figures.differing()
+    print(f"{what}: {count} tried, {len(differing)} differ")
     for name in differing:
         print(f"    {name}")
     return not differing
@@ -84,11 +91,11 @@ def write(stored, tables):
 
 
 def main(arguments):
-    """Answers the status. A model that differs from 01, or from what is by hand, writes nothing."""
+    """Answers the status. A model that differs from 01 or 02, or from what is by hand, writes nothing."""
     if arguments not in ([], ["--check"]):
         print("python3 -m model [--check]")
         return 2
-    fine = holds_to_01()
+    fine = all([holds_to(what, figures) for what, figures in HELD_TO.items()])
     made = [(stored, tables_of(stored)) for stored in STORED]
     if arguments:
         return 0 if all([tables is not None and check(stored, tables) for stored, tables in made]) and fine else 1

@@ -1,15 +1,15 @@
 """Gives a script to the program `hint` and prints its answer for people, as tools/hint says.
 
-    python3 answer.py SCRIPT COMMAND...     COMMAND runs the program
+    python3 answer.py SCRIPT TEXT COMMAND...     COMMAND runs the program; TEXT is empty, or the text of SCRIPT
 """
 
-import struct
-import subprocess
 import sys
 
-REFUSED, UNREADABLE, CANNOT_RUN = 1, 2, 3
-ANSWERS = ["OK", "BAD_SCRIPT", "BAD_SCALE", "BAD_BLUES", "BAD_COMMAND", "BAD_MASK", "NO_ROOM"]
-LEAST_BYTES, MOST_BYTES = 32, 65536
+from program import ANSWERS, MOST_BYTES, OK, REFUSED, answer_of, contents, words_of
+from text import given_of, line_at
+
+TOOL = "hint"
+LEAST_BYTES = 32
 RESULT_HEADER = 4
 FRACTION_BITS = 16
 # What stands in the words of a script that a refusal can name, as far as they have fixed places.
@@ -30,16 +30,6 @@ WORDS = {
 COMMANDS = [None, "stem", "hint mask", "counter mask", "clear", "move", "line", "curve", "close", "finish"]
 # Each kind of record, and how many words stand behind its kind word.
 RECORDS = {1: ("move", 2), 2: ("line", 2), 3: ("curve", 6), 4: ("close", 0), 5: ("finish", 0)}
-
-
-def stop(status, why):
-    print(f"hint: {why}", file=sys.stderr)
-    sys.exit(status)
-
-
-def words_of(data):
-    count = len(data) // 4
-    return struct.unpack(f"<{count}i", data[: 4 * count])
 
 
 def decimal(bits):
@@ -70,23 +60,21 @@ def lines(records):
         at = end
 
 
-def main(path, command):
-    try:
-        with open(path, "rb") as file:
-            script = file.read(MOST_BYTES + 1)
-    except OSError as error:
-        stop(UNREADABLE, f"cannot read {path}: {error.strerror}")
-    ran = subprocess.run(command, input=script, stdout=subprocess.PIPE, check=False)
-    answer = words_of(ran.stdout)
-    if ran.returncode != 0 or len(answer) < 2:
-        stop(CANNOT_RUN, f"the program cannot be run here: status {ran.returncode}")
-    number, place, *result = answer
-    if number != ANSWERS.index("OK"):
-        print(f"{ANSWERS[number]}, place {place}: {standing(script, place)}")
+def written(text, place):
+    """The line of a text in which the command at a place is written."""
+    return f", {text}:{line_at(given_of(contents(TOOL, text)), place)}" if text else ""
+
+
+def main(path, text, *command):
+    script = contents(TOOL, path, MOST_BYTES + 1)
+    number, place, data = answer_of(TOOL, command, script)
+    if number != OK:
+        print(f"{ANSWERS[number]}, place {place}: {standing(script, place)}{written(text, place)}")
         sys.exit(REFUSED)
+    result = words_of(data)
     print(f"{ANSWERS[number]}, place {place}, {result[1]} records")
     for line in lines(result[RESULT_HEADER:]):
         print(line)
 
 
-main(sys.argv[1], sys.argv[2:])
+main(*sys.argv[1:])

@@ -7,4 +7,5 @@ pub use faults::check_commands;
 pub use reading::Command;
 pub use reading::Marking;
 pub use reading::Read;
+pub use reading::operands;
 pub use reading::read_command;

@@ -34,7 +34,7 @@ pub struct Read {
 }
 
 // How many operands a kind has; 0 for what is no kind.
-fn operands(kind: usize) -> usize
+pub fn operands(kind: usize) -> usize
     ensures { λ r. ⌜ (r ≡ operandsOf kind) × (r ≤ 6) ⌝ }
 {
     match kind {

@@ -1,3 +1,3 @@
-pub mod Laid
+pub mod AnswerWords
 pub mod Program
 pub mod Unique

@@ -2,27 +2,16 @@
 -- bytes, the least first.
 use mathlib.Core.Path.{_≡_}
 use mathlib.Core.Bool.{cond}
-use mathlib.Core.List.{List, [], _∷_, _++_, map}
-use Prim.Native.Nat.{ℕ, _+_, _*_, _/_, _%_}
+use mathlib.Core.List.{List, [], _∷_, map}
+use Prim.Native.Nat.{ℕ, _+_, _*_}
 use lib.IntN.{ℤ, pos}
-use lib.ListN.{length, take, drop, getD, replicate}
+use lib.ListN.{length, take, getD, replicate}
 use Rattle.fixed.specs.Integers.{bitsOf}
 use Rattle.words.specs.declared.answer.Answer.{Answer}
+use Rattle.words.specs.Bytes.{laid}
 use Rattle.words.specs.Answers.{numberOf, placeOf, refuses}
 use Rattle.run.specs.Room.{fitted}
 use Rattle.script.specs.Script.{stepsIn, resultWords, scriptOf}
-
--- ---- words as bytes
-abbrev pub wordBytes : ℕ → List ℕ
-wordBytes n = n % 256 ∷ n / 256 % 256 ∷ n / 65536 % 256 ∷ n / 16777216 % 256 ∷ []
-
-unfoldable pub bytesOf : List ℕ → List ℕ
-bytesOf [] = []
-bytesOf (w ∷ ws) = wordBytes w ++ bytesOf ws
-
--- some words laid over bytes from word i on; the bytes before and behind them stand
-unfoldable pub laid : List ℕ → ℕ → List ℕ → List ℕ
-laid bytes i ws = take (4 * i) bytes ++ (bytesOf ws ++ drop (4 * i + 4 * length ws) bytes)
 
 -- ---- the answer
 -- number, place and, if OK, the result

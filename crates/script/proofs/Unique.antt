@@ -8,6 +8,9 @@ use contract.Lifetimes.{Lfts}
 use denote.Triple.Clauses.{AtExit}
 use denote.Ref.{now}
 use Rattle.words.proofs.Answers.{says-is}
+use Rattle.script.proofs.checking.check_script as check-script
+use Rattle.script.proofs.checking.check_script.Kinds as check-script-kinds
+use Rattle.script.proofs.checking.check_script.Reads as check-script-reads
 use Rattle.script.proofs.count.count_records as count-records
 use Rattle.script.proofs.count.count_records.Kinds as count-records-kinds
 use Rattle.script.proofs.count.count_records.Reads as count-records-reads
@@ -25,3 +28,8 @@ module _ (κs : Lfts 2) (a : ArgsD run-script.signature κs) (r r′ : ResD run-
   pub run-script-unique : run-script-reads.Post κs a r x → run-script-reads.Post κs a r′ x′ →
       (r ≡ r′) × (now (x .1 .0) ≡ now (x′ .1 .0))
   run-script-unique p q = (says-is (p .answer) ∙ sym (says-is (q .answer)), p .memory ∙ sym (q .memory))
+
+module _ (κs : Lfts 1) (a : ArgsD check-script.signature κs) (r r′ : ResD check-script.signature κs)
+    (x x′ : AtExit (endedOf 1 check-script-kinds.ps check-script-kinds.r) κs) where
+  pub check-script-unique : check-script-reads.Post κs a r x → check-script-reads.Post κs a r′ x′ → r ≡ r′
+  check-script-unique p q = p ∙ sym q

@@ -10,7 +10,7 @@ ghost use Rattle.words.specs.Answers.{firstOf};
 ghost use Rattle.script.specs.Script.{checkRows};
 
 // The first fault of a script.
-pub(crate) fn check(script: &[u8]) -> Answer
+pub fn check_script(script: &[u8]) -> Answer
     ensures { λ r. ⌜ r ≡ firstOf (checkRows (now (script .entry))) ⌝ }
 {
     let header = check_header(script);

@@ -3,4 +3,5 @@ mod checking;
 mod count;
 mod whole;
 
+pub use checking::check_script;
 pub use whole::run_script;

@@ -1,5 +1,5 @@
 // Checking and running a script.
-use crate::checking::check;
+use crate::checking::check_script;
 use crate::count::count_records;
 use header::read_params;
 use run::Ran;
@@ -68,7 +68,7 @@ fn seal(out: &mut [i32], records: u32, words: u32)
 pub fn run_script(script: &[u8], out: &mut [i32]) -> Answer
     ensures { λ r. ⌜ Scripted (scriptOf (now (script .entry)) (now (out .entry))) r (now (out .exit)) ⌝ }
 {
-    let fault = check(script);
+    let fault = check_script(script);
     if fault.code() != 0 {
         return fault;
     }

@@ -1,11 +1,14 @@
--- Any two outcomes that meet the contract of the exported run are equal, over that contract as the
--- toolchain reads it: number, place and every word of the output. Assumes nothing.
+-- Any two outcomes that meet the contract of an exported function are equal, over that contract as
+-- the toolchain reads it: number, place, bytes written and the whole buffer. Assumes nothing.
 use mathlib.Core.Path.{_≡_, sym, _∙_}
 use borrow.Fn.Kinds.{endedOf}
 use borrow.Fn.World.{ArgsD, ResD}
 use contract.Lifetimes.{Lfts}
 use denote.Triple.Clauses.{AtExit}
 use denote.Ref.{now}
+use Rattle.spoonglacier.proofs.spoonglacier_write as write
+use Rattle.spoonglacier.proofs.spoonglacier_write.Kinds as write-kinds
+use Rattle.spoonglacier.proofs.spoonglacier_write.Reads as write-reads
 use Rattle.spoonglacier.proofs.spoonglacier_run as run
 use Rattle.spoonglacier.proofs.spoonglacier_run.Kinds as run-kinds
 use Rattle.spoonglacier.proofs.spoonglacier_run.Reads as run-reads
@@ -15,3 +18,14 @@ module _ (κs : Lfts 3) (a : ArgsD run.signature κs) (r r′ : ResD run.signatu
   pub run-unique : run-reads.Post κs a r x → run-reads.Post κs a r′ x′ →
       (r ≡ r′) × ((now (x .1 .0) ≡ now (x′ .1 .0)) × (now (x .1 .1 .0) ≡ now (x′ .1 .1 .0)))
   run-unique p q = (p .number ∙ sym (q .number), (p .memory ∙ sym (q .memory), p .place ∙ sym (q .place)))
+
+module _ (κs : Lfts 6) (a : ArgsD write.signature κs) (r r′ : ResD write.signature κs)
+    (x x′ : AtExit (endedOf 6 write-kinds.ps write-kinds.r) κs) where
+  pub write-unique : write-reads.Post κs a r x → write-reads.Post κs a r′ x′ →
+      (r ≡ r′) × ((now (x .1 .1 .1 .1 .0) ≡ now (x′ .1 .1 .1 .1 .0)) ×
+      ((now (x .1 .1 .1 .1 .1 .0) ≡ now (x′ .1 .1 .1 .1 .1 .0)) ×
+      (now (x .1 .1 .1 .1 .1 .1 .0) ≡ now (x′ .1 .1 .1 .1 .1 .1 .0))))
+  write-unique p q = (
+    p .number ∙ sym (q .number),
+    (p .memory ∙ sym (q .memory), (p .written ∙ sym (q .written), p .place ∙ sym (q .place))),
+  )

@@ -84,26 +84,33 @@ module _ {A : Type 0} (ok : A) where
       reach zero f = refl
       reach (suc k) f = reach k (λ j h. f j (omega arith)) ∙ skip rs k (f k (omega arith))
 
-  -- tests in two lists: a refusal of the first list stands
-  pub found : (rs qs : List (Row A)) → (firstOr ok rs ≡ ok → ⊥) → firstOr ok (rs ++ qs) ≡ firstOr ok rs
+  -- tests in two lists: a refusal of the first list stands, whatever is answered where none refuses
+  pub found-else : (ok′ : A) (rs qs : List (Row A)) → (firstOr ok rs ≡ ok → ⊥) → firstOr ok′ (rs ++ qs) ≡ firstOr ok rs
   unfolding firstOr
-  found [] qs h = absurd (h refl)
-  found (r ∷ rs) qs h = by (r .fault) h (λ l. found rs qs l)
+  found-else ok′ [] qs h = absurd (h refl)
+  found-else ok′ (r ∷ rs) qs h = by (r .fault) h (λ l. found-else ok′ rs qs l)
     where
       by : (b : Bool) → (cond b (r .said) (firstOr ok rs) ≡ ok → ⊥) →
-          ((firstOr ok rs ≡ ok → ⊥) → firstOr ok (rs ++ qs) ≡ firstOr ok rs) →
-          cond b (r .said) (firstOr ok (rs ++ qs)) ≡ cond b (r .said) (firstOr ok rs)
+          ((firstOr ok rs ≡ ok → ⊥) → firstOr ok′ (rs ++ qs) ≡ firstOr ok rs) →
+          cond b (r .said) (firstOr ok′ (rs ++ qs)) ≡ cond b (r .said) (firstOr ok rs)
       by true l g = refl
       by false l g = g l
 
+  pub found : (rs qs : List (Row A)) → (firstOr ok rs ≡ ok → ⊥) → firstOr ok (rs ++ qs) ≡ firstOr ok rs
+  found rs qs h = found-else ok rs qs h
+
   -- and where it gives none, the second list gives the answer
-  pub onward : (rs qs : List (Row A)) → Refusing rs → firstOr ok rs ≡ ok → firstOr ok (rs ++ qs) ≡ firstOr ok qs
+  pub onward-else : (ok′ : A) (rs qs : List (Row A)) → Refusing rs → firstOr ok rs ≡ ok →
+      firstOr ok′ (rs ++ qs) ≡ firstOr ok′ qs
   unfolding firstOr
-  onward [] qs h e = refl
-  onward (r ∷ rs) qs h e = by (r .fault) e (λ l. onward rs qs (rest-refusing r rs h) l)
+  onward-else ok′ [] qs h e = refl
+  onward-else ok′ (r ∷ rs) qs h e = by (r .fault) e (λ l. onward-else ok′ rs qs (rest-refusing r rs h) l)
     where
       by : (b : Bool) → cond b (r .said) (firstOr ok rs) ≡ ok →
-          (firstOr ok rs ≡ ok → firstOr ok (rs ++ qs) ≡ firstOr ok qs) →
-          cond b (r .said) (firstOr ok (rs ++ qs)) ≡ firstOr ok qs
+          (firstOr ok rs ≡ ok → firstOr ok′ (rs ++ qs) ≡ firstOr ok′ qs) →
+          cond b (r .said) (firstOr ok′ (rs ++ qs)) ≡ firstOr ok′ qs
       by true l g = absurd (h 0 (omega arith) l)
       by false l g = g l
+
+  pub onward : (rs qs : List (Row A)) → Refusing rs → firstOr ok rs ≡ ok → firstOr ok (rs ++ qs) ≡ firstOr ok qs
+  onward rs qs h e = onward-else ok rs qs h e

@@ -1,11 +1,12 @@
 -- Any two results that meet the contract of a public function are equal, over that contract as the
--- toolchain reads it. Assumes nothing.
+-- toolchain reads it, and so is what they leave behind. Assumes nothing.
 use mathlib.Core.Path.{_≡_, sym, _∙_}
 use Prim.Native.Nat.{ℕ}
 use borrow.Fn.Kinds.{endedOf}
 use borrow.Fn.World.{ArgsD, ResD}
 use contract.Lifetimes.{Lfts}
 use denote.Triple.Clauses.{AtExit}
+use denote.Ref.{now}
 use Rattle.words.specs.declared.answer.Answer.{Answer}
 use Rattle.words.proofs.answer.Answer.code.Reads as code-reads
 use Rattle.words.proofs.answer.Answer.place.Reads as place-reads
@@ -18,6 +19,12 @@ use Rattle.words.proofs.read.raw.Reads as raw-reads
 use Rattle.words.proofs.read.word as word
 use Rattle.words.proofs.read.word.Kinds as word-kinds
 use Rattle.words.proofs.read.word.Reads as word-reads
+use Rattle.words.proofs.storing.store as store
+use Rattle.words.proofs.storing.store.Kinds as store-kinds
+use Rattle.words.proofs.storing.store.Reads as store-reads
+use Rattle.words.proofs.storing.store_words as words
+use Rattle.words.proofs.storing.store_words.Kinds as words-kinds
+use Rattle.words.proofs.storing.store_words.Reads as words-reads
 use Rattle.words.proofs.read.number as number
 use Rattle.words.proofs.read.number.Kinds as number-kinds
 use Rattle.words.proofs.read.number.Reads as number-reads
@@ -48,3 +55,13 @@ module _ (κs : Lfts 1) (a : ArgsD number.signature κs) (r r′ : ResD number.s
     (x x′ : AtExit (endedOf 1 number-kinds.ps number-kinds.r) κs) where
   pub number-unique : number-reads.Post κs a r x → number-reads.Post κs a r′ x′ → r ≡ r′
   number-unique p q = p ∙ sym q
+
+module _ (κs : Lfts 1) (a : ArgsD store.signature κs) (r r′ : ResD store.signature κs)
+    (x x′ : AtExit (endedOf 1 store-kinds.ps store-kinds.r) κs) where
+  pub store-unique : store-reads.Post κs a r x → store-reads.Post κs a r′ x′ → now (x .0) ≡ now (x′ .0)
+  store-unique p q = p ∙ sym q
+
+module _ (κs : Lfts 2) (a : ArgsD words.signature κs) (r r′ : ResD words.signature κs)
+    (x x′ : AtExit (endedOf 2 words-kinds.ps words-kinds.r) κs) where
+  pub store-words-unique : words-reads.Post κs a r x → words-reads.Post κs a r′ x′ → now (x .0) ≡ now (x′ .0)
+  store-words-unique p q = p ∙ sym q

@@ -2,9 +2,12 @@
 mod answer;
 pub mod layout;
 mod read;
+mod storing;
 
 pub use answer::Answer;
 pub use read::natural;
 pub use read::number;
 pub use read::raw;
 pub use read::word;
+pub use storing::store;
+pub use storing::store_words;

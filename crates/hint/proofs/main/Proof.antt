@@ -4,7 +4,7 @@ use Prim.Native.Nat.{_≤_}
 use lib.ListN.{length}
 use lib.Seq.{length-take-le}
 use borrow.Author.Needs.{needs}
-use Rattle.hint.proofs.Laid.{answered-within}
+use Rattle.hint.proofs.AnswerWords.{answered-within}
 use Rattle.hint.proofs.main.Statement.{statement}
 use Rattle.hint.proofs.main.Tie as tie
 

@@ -5,14 +5,16 @@ use mathlib.Core.List.{List, [], _∷_, map}
 use Prim.Native.Nat.{ℕ, _%_, _≤_}
 use native.Mathlib.Omega.{arith}
 use lib.IntN.{ℤ}
-use lib.ListN.{length, take, length-map}
+use lib.ListN.{length, take, length-map, length-take}
+use lib.Seq.{length-take-le}
 use borrow.Author.Needs.{needs}
 use Rattle.fixed.specs.Integers.{bitsOf}
 use Rattle.words.specs.declared.answer.Answer.{Answer}
 use Rattle.words.specs.Answers.{numberOf, placeOf}
-use Rattle.hint.specs.Encode.{laid, resultIn}
-use Rattle.hint.proofs.Laid.{laid-length, laid-behind, low-laid, refused-words, ok-words, result-taken}
-use Rattle.hint.proofs.Laid.{result-short}
+use Rattle.words.specs.Bytes.{laid}
+use Rattle.words.proofs.Laid.{laid-length, laid-behind, low-laid}
+use Rattle.hint.specs.Encode.{resultIn}
+use Rattle.hint.proofs.AnswerWords.{refused-words, ok-words, result-taken, result-short}
 use Rattle.hint.proofs.encode.answered.Statement.{statement}
 use Rattle.hint.proofs.encode.answered.Tie as tie
 
@@ -100,19 +102,28 @@ returns c =
 result-words-requires : tie.Need-result-words-requires
 result-words-requires c κs = search needs
 
-encode-requires : tie.Need-encode-requires
-encode-requires c κs =
-    let r = c .before in
-    (few r, omega (arith, few r, both-length (stored r), begin (stored r) .pre))
+slice-aggregate-store-words : tie.Need-slice-aggregate-store-words
+slice-aggregate-store-words c = sym (length-take-le _ _ (few (c .before .before)))
+
+store-words-requires : tie.Need-store-words-requires
+store-words-requires c κs =
+    let r = c .before .before in
+    omega (
+      arith,
+      few r,
+      length-take (r .result-words .result) (lent r),
+      both-length (stored r),
+      begin (stored r) .pre,
+    )
 
 mul-result : tie.Need-mul-result
 mul-result c =
-    let r = c .before .before .before .before in
+    let r = c .before .before .before .before .before in
     omega (arith, few r, begin (stored r) .good)
 
 add-result : tie.Need-add-result
 add-result c =
-    let r = c .before .before .before .before in
+    let r = c .before .before .before .before .before in
     omega (arith, few r, begin (stored r) .good)
 
 same-length-2 : tie.Need-same-length-2
@@ -121,13 +132,13 @@ same-length-2 c = search needs
 returns-2 : tie.Need-returns-2
 returns-2 c =
     let n = c .before .before in
-    let r = n .before .before in
+    let r = n .before .before .before in
     let s = stored r in
     let o = lent r in
     let w = ok-words (said s) (resultIn o) (omega (arith, r .before .before .code2 .ensures, r .before .if1 .left)) in
     let t : map bitsOf (take (r .result-words .result) o) ≡
     map bitsOf (resultIn o) = ap (map bitsOf) (ap (λ (k : ℕ). take k o) (many r) ∙ result-taken o) in
-    let e = n .encode .ensures ∙
+    let e = n .store-words .ensures ∙
     ap (λ (b : List ℕ). laid b 2 (map bitsOf (take (r .result-words .result) o))) (both s) ∙
     ap (laid (laid (bytes s) 0 (two s)) 2) t in
     record {
@@ -150,7 +161,8 @@ answered-spec =
     same-length
     returns
     result-words-requires
-    encode-requires
+    slice-aggregate-store-words
+    store-words-requires
     mul-result
     add-result
     same-length-2

@@ -32,7 +32,7 @@ no-fault : (c : tie.Else1) →
     refuses (firstOf (checkRows (c .before .before .before .before .args .script .now))) ≡ false
 no-fault c =
     taken (firstOf (checkRows (c .before .before .before .before .args .script .now)))
-    (omega (arith, ap numberOf (c .before .before .check .ensures), c .before .code .ensures, c .if1 .left))
+    (omega (arith, ap numberOf (c .before .before .check-script .ensures), c .before .code .ensures, c .if1 .left))
 
 all-ok : (c : tie.Else1) → firstOf (checkRows (c .before .before .before .before .args .script .now)) ≡ Ok
 all-ok c = not-refused (firstOf (checkRows (c .before .before .before .before .args .script .now))) (no-fault c)
@@ -85,8 +85,8 @@ counted c =
     ap (λ (k : ℕ). take k (drop 4 (take 4 (out r) ++ written (fit r .words) (drop 4 (out r))))) (words-are r) ∙
     behind (fit r .words) (out r) (enough r))
 
-check-requires : tie.Need-check-requires
-check-requires c κs = search needs
+check-script-requires : tie.Need-check-script-requires
+check-script-requires c κs = search needs
 
 code-requires : tie.Need-code-requires
 code-requires c κs = search needs
@@ -95,8 +95,9 @@ returns : tie.Need-returns
 returns c =
     let k = c .before .before in
     let s = k .before .before .args in
-    let n = ap numberOf (k .check .ensures) in
-    subst (λ (a : Answer). Scripted (scriptOf (s .script .now) (s .out .now)) a (s .out .now)) (sym (k .check .ensures))
+    let n = ap numberOf (k .check-script .ensures) in
+    subst (λ (a : Answer). Scripted (scriptOf (s .script .now) (s .out .now)) a (s .out .now))
+    (sym (k .check-script .ensures))
     (by-fault (s .script .now) (s .out .now)
     (refused (firstOf (checkRows (s .script .now))) (omega (arith, n, c .before .code .ensures, c .if1 .taken))))
 
@@ -203,7 +204,7 @@ pub run-script-spec : {M : Type 1} → statement M
 run-script-spec =
     tie.close
     (tie.spec
-    check-requires
+    check-script-requires
     code-requires
     returns
     natural-requires

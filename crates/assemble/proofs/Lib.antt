@@ -1,0 +1,4 @@
+pub mod Reading
+pub mod AskedAnswers
+pub mod Output
+pub mod Unique

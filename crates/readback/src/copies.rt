@@ -1,0 +1,86 @@
+// The commands and the mask bytes of a script, copied as the writer takes them.
+use commands::operands;
+use words::natural;
+use words::word;
+use writer::given_operands;
+ghost use mathlib.Core.Path.{_≡_};
+ghost use mathlib.Core.List.{map};
+ghost use Prim.Native.Nat.{_+_, _*_, _≤_};
+ghost use lib.ListN.{length, take, drop};
+ghost use Rattle.fixed.specs.Integers.{signed};
+ghost use Rattle.words.specs.Words.{rawAt};
+ghost use Rattle.commands.specs.Commands.{operandsOf};
+ghost use Rattle.writer.specs.Pieces.{piecesOf, pieceWords, givenOperands, unstarted};
+ghost use Rattle.writer.specs.Refusals.{over};
+ghost use Rattle.readback.specs.ReadBack.{wordsFrom, shortened, placed, scriptPiece, WholeCommands};
+
+// How many words the commands have without the starts of their masks.
+pub(crate) fn count_short(script: &[u8], first: usize, n: usize) -> usize
+    requires { ⌜ WholeCommands (now script) first n ⌝ }
+    ensures { λ r. ⌜ r ≡ length (shortened
+        (piecesOf operandsOf (wordsFrom (rawAt (now (script .entry))) first n))) ⌝ }
+{
+    let mut count = 0;
+    let mut at = 0;
+    while at < n {
+        let kind = natural(script, first + at);
+        count = count + 1 + given_operands(kind);
+        at = at + 1 + operands(kind);
+    }
+    count
+}
+
+// So many words of a script, from one on, at a place of the commands.
+fn copy_words(script: &[u8], from: usize, n: usize, commands: &mut [i32], to: usize)
+    requires { ⌜ (4 * (from + n) ≤ length (now script)) × (to + n ≤ length (now commands)) ⌝ }
+    ensures { λ _. ⌜ now (commands .exit) ≡
+        placed (now (commands .entry)) to (map signed (wordsFrom (rawAt (now (script .entry))) from n)) ⌝ }
+{
+    for i in 0..n {
+        commands[to + i] = word(script, from + i);
+    }
+}
+
+// The piece at a word of a script, without its start, at a place of the commands.
+fn copy_piece(script: &[u8], at: usize, commands: &mut [i32], to: usize)
+    requires { ⌜ (4 * (at + 1 + operandsOf (rawAt (now script) at)) ≤ length (now script)) ×
+        (to + 1 + givenOperands (rawAt (now script) at) ≤ length (now commands)) ⌝ }
+    ensures { λ _. ⌜ now (commands .exit) ≡
+        placed (now (commands .entry)) to
+        (map signed (pieceWords (unstarted (scriptPiece (rawAt (now (script .entry))) at)))) ⌝ }
+{
+    let kind = natural(script, at);
+    let given = given_operands(kind);
+    let next = at + 1 + operands(kind);
+    copy_words(script, at, 1, commands, to);
+    copy_words(script, next - given, given, commands, to + 1);
+}
+
+// All of them, from the start of the commands on.
+pub(crate) fn copy_commands(script: &[u8], first: usize, n: usize, commands: &mut [i32])
+    requires { ⌜ WholeCommands (now script) first n ×
+        (length (shortened (piecesOf operandsOf (wordsFrom (rawAt (now script)) first n))) ≤
+        length (now commands)) ⌝ }
+    ensures { λ _. ⌜ now (commands .exit) ≡
+        over (map signed (shortened (piecesOf operandsOf (wordsFrom (rawAt (now (script .entry))) first n))))
+        (now (commands .entry)) ⌝ }
+{
+    let mut to = 0;
+    let mut at = 0;
+    while at < n {
+        let kind = natural(script, first + at);
+        copy_piece(script, first + at, commands, to);
+        to = to + 1 + given_operands(kind);
+        at = at + 1 + operands(kind);
+    }
+}
+
+// So many bytes of a script, from one on.
+pub(crate) fn copy_bytes(script: &[u8], from: usize, n: usize, masks: &mut [u8])
+    requires { ⌜ (from + n ≤ length (now script)) × (n ≤ length (now masks)) ⌝ }
+    ensures { λ _. ⌜ now (masks .exit) ≡ over (take n (drop from (now (script .entry)))) (now (masks .entry)) ⌝ }
+{
+    for i in 0..n {
+        masks[i] = script[from + i];
+    }
+}

@@ -1,0 +1,239 @@
+-- The layout of a script: the words and the mask bytes of one that the writer does not refuse, read
+-- from its bytes, and what is written of one that the reader accepts. Assumes nothing.
+use mathlib.Core.Path.{_≡_, refl, sym, ap, _∙_}
+use mathlib.Core.Bool.{Bool, true, false, _&&_, true≢false}
+use mathlib.Core.List.{List, [], _∷_, _++_, map}
+use Prim.Native.Nat.{ℕ, _+_, _-_, _*_, _/_, _%_, _≤_, _<_, _^_}
+use native.Mathlib.Omega.{arith}
+use lib.Dec.{eqb}
+use lib.ListN.{length, take, drop, replicate, length-drop, take-append-drop}
+use lib.Seq.{drop-at, drop-drop}
+use borrow.Author.Tests.{eqb-true, not-false}
+use Rattle.fixed.specs.Integers.{bitsOf}
+use Rattle.words.specs.declared.answer.Answer.the-variants.{Ok}
+use Rattle.words.specs.Words.{rawAt, negative}
+use Rattle.words.specs.Bytes.{bytesOf}
+use Rattle.words.specs.Answers.{firstOf}
+use Rattle.words.proofs.Rows.{none-holds}
+use Rattle.words.proofs.Laid.{bytes-length}
+use Rattle.header.specs.Header.{differs, outside, allZero, padded, lengthBad, headerRows}
+use Rattle.header.specs.Params.{pairsIn, paramRows}
+use Rattle.header.proofs.Fine.{header-refusing, params-refusing}
+use Rattle.header.proofs.Tests.{both-false, alike}
+use Rattle.script.specs.Script.{checkRows}
+use Rattle.script.proofs.Passed.{Passed, passed}
+use Rattle.writer.specs.Pieces.{givenOperands}
+use Rattle.writer.specs.ToWrite.{Given, numberWord, paramWords, piecesIn, commandWords, headerWords, scriptWords}
+use Rattle.writer.specs.ToWrite.{paddedBytes, scriptFor}
+use Rattle.writer.proofs.Cutting.{joined-pieces}
+use Rattle.writer.proofs.Laying.{signed-bits}
+use Rattle.writer.proofs.Sizes.{words-length, script-length}
+use Rattle.writer.proofs.Answering.{Unrefused}
+use Rattle.readback.specs.ReadBack.{wordsFrom, givenIn}
+use Rattle.readback.proofs.Accepted.{raw-drop}
+use Rattle.readback.proofs.ReadRooms.{masks-length}
+use Rattle.readback.proofs.Shortened.{words-length as from-length, words-split}
+use Rattle.round_trips.specs.RoundTrips.{Bytes}
+use Rattle.round_trips.proofs.WordBytes.{Small, small-both, bits-small, Holds, holds-front, holds-back}
+use Rattle.round_trips.proofs.WordBytes.{holds-moved, words-there, word-small, bytes-from}
+use Rattle.round_trips.proofs.Parameters.{number-small, params-small, param-words}
+use Rattle.round_trips.proofs.Starts.{starts-small}
+
+-- ---- a script that the writer does not refuse
+-- how many words the parameters and the commands take, and all words
+abbrev pub paramCount : Given → ℕ
+paramCount g = length (paramWords (g .params))
+
+abbrev pub commandCount : Given → ℕ
+commandCount g = length (commandWords (g .commands))
+
+abbrev pub wordCount : Given → ℕ
+wordCount g = 8 + paramCount g + commandCount g
+
+-- and the zeros behind so many mask bytes
+abbrev pub zerosBehind : ℕ → List ℕ
+zerosBehind n = replicate (4 * padded n - n) 0
+
+-- the words of the header, and where the others stand
+pub record LaidOut (g : Given) (w : ℕ → ℕ) : Type 0 where
+  pub version : w 0 ≡ 1
+  pub scale : w 1 ≡ numberWord (g .scale)
+  pub paramsAt : w 2 ≡ 8
+  pub params : w 3 ≡ paramCount g
+  pub commandsAt : w 4 ≡ 8 + paramCount g
+  pub commands : w 5 ≡ commandCount g
+  pub masksAt : w 6 ≡ wordCount g
+  pub masks : w 7 ≡ length (g .masks)
+  pub paramsThere : Holds w 8 (paramWords (g .params))
+  pub commandsThere : Holds w (8 + paramCount g) (commandWords (g .commands))
+
+module _ (g : Given) (c : Unrefused g) where
+  -- the command words are below 2^32
+  commands-small : Small (commandWords (g .commands))
+  unfolding commandWords
+  commands-small =
+      let few : 0 + length (g .masks) < 2 ^ 32 = omega (arith, c .short, script-length g) in
+      starts-small 0 0 (length (g .masks)) (piecesIn (g .commands)) (c .pieces) few
+      (rw (joined-pieces givenOperands (map bitsOf (g .commands))) (bits-small (g .commands)))
+
+  -- all of them are below 2^32
+  words-small : Small (scriptWords g)
+  unfolding scriptWords
+  words-small =
+      let header = headerWords (g .scale) (paramCount g) (commandCount g) (length (g .masks)) in
+      small-both header (paramWords (g .params) ++ commandWords (g .commands))
+      (omega (arith, number-small (g .scale), script-length g, c .short))
+      (small-both (paramWords (g .params)) (commandWords (g .commands)) (params-small (g .params) (c .params))
+      commands-small)
+
+  -- so they come out of the script's bytes
+  words-read : Holds (rawAt (scriptFor g)) 0 (scriptWords g)
+  unfolding scriptFor
+  words-read = words-there (scriptFor g) 0 (scriptWords g) (paddedBytes (g .masks)) refl words-small
+
+  -- each in its place
+  pub laid-out : LaidOut g (rawAt (scriptFor g))
+  unfolding scriptWords
+  laid-out =
+      let w = rawAt (scriptFor g) in
+      let ps = paramWords (g .params) in
+      let cs = commandWords (g .commands) in
+      let k = words-read in
+      let behind = k .1 .1 .1 .1 .1 .1 .1 .1 in
+      record {
+        version = k .0;
+        scale = k .1 .0;
+        paramsAt = k .1 .1 .0;
+        params = k .1 .1 .1 .0;
+        commandsAt = k .1 .1 .1 .1 .0;
+        commands = k .1 .1 .1 .1 .1 .0;
+        masksAt = k .1 .1 .1 .1 .1 .1 .0;
+        masks = k .1 .1 .1 .1 .1 .1 .1 .0;
+        paramsThere = holds-front w 8 ps cs behind;
+        commandsThere = holds-back w 8 (8 + paramCount g) ps cs refl behind;
+      }
+
+  -- the command words, from their offset on
+  pub commands-read : Holds (rawAt (drop (4 * (8 + paramCount g)) (scriptFor g))) 0 (commandWords (g .commands))
+  commands-read =
+      let at = 8 + paramCount g in
+      let z : at + 0 ≡ at = omega arith in
+      holds-moved _ (rawAt (scriptFor g)) at (raw-drop (scriptFor g) at) 0 (commandWords (g .commands))
+      (rw z (laid-out .commandsThere))
+
+-- the mask bytes stand behind the words
+pub masks-there : (g : Given) → drop (4 * wordCount g) (scriptFor g) ≡ paddedBytes (g .masks)
+unfolding scriptFor
+masks-there g =
+    drop-at (bytesOf (scriptWords g)) (paddedBytes (g .masks)) (4 * wordCount g)
+    (omega (arith, bytes-length (scriptWords g), words-length g))
+
+-- and zeros behind them
+pub zeros-there : (g : Given) →
+    drop (4 * wordCount g + length (g .masks)) (scriptFor g) ≡ zerosBehind (length (g .masks))
+unfolding paddedBytes
+zeros-there g =
+    sym (drop-drop (length (g .masks)) (4 * wordCount g) (scriptFor g)) ∙
+    ap (drop (length (g .masks))) (masks-there g) ∙
+    drop-at (g .masks) (zerosBehind (length (g .masks))) (length (g .masks)) refl
+
+-- ---- a script that the reader accepts
+-- the rest of its header, and what its mask bytes end with
+pub record Layout (s : List ℕ) : Type 0 where
+  pub version : rawAt s 0 ≡ 1
+  pub offset : rawAt s 2 ≡ 8
+  pub params : rawAt s 3 ≡ 8 + 2 * pairsIn (rawAt s)
+  pub all : length s ≡ 4 * (rawAt s 6 + padded (rawAt s 7))
+  pub zeros : allZero (drop (4 * rawAt s 6 + rawAt s 7) s) ≡ true
+
+-- a length that is fine is one in fours
+in-fours : (n : ℕ) → lengthBad n ≡ false → n % 4 ≡ 0
+unfolding lengthBad
+in-fours n e = alike (n % 4) 0 (both-false (outside 32 65536 n) (differs (n % 4) 0) e .1)
+
+-- a script that passes all tests is laid out so
+pub layout : (s : List ℕ) → Passed s → Layout s
+unfolding headerRows paramRows
+layout s p =
+    let f = none-holds Ok (headerRows s) (header-refusing s) (p .header) in
+    let g = none-holds Ok (paramRows (rawAt s)) (params-refusing s) (p .params) in
+    let n = in-fours (length s) (f 0) in
+    let b = both-false (negative (rawAt s 7)) (differs (rawAt s 6 + padded (rawAt s 7)) (length s / 4)) (f 7) in
+    let m = alike (rawAt s 6 + padded (rawAt s 7)) (length s / 4) (b .1) in
+    record {
+      version = alike (rawAt s 0) 1 (f 1);
+      offset = alike (rawAt s 2) 8 (f 2);
+      params = alike (rawAt s 3) (8 + 2 * pairsIn (rawAt s)) (g 5);
+      all = omega arith;
+      zeros = not-false (allZero (drop (4 * rawAt s 6 + rawAt s 7) s)) (f 8);
+    }
+
+-- bytes that are all zero are so many zeros
+zero-bytes : (l : List ℕ) → allZero l ≡ true → l ≡ replicate (length l) 0
+unfolding allZero
+zero-bytes [] e = refl
+zero-bytes (b ∷ l) e = go (eqb b 0) refl e (λ q. zero-bytes l q)
+  where
+    go : (t : Bool) → eqb b 0 ≡ t → (t && allZero l) ≡ true → (allZero l ≡ true → l ≡ replicate (length l) 0) →
+        b ∷ l ≡ 0 ∷ replicate (length l) 0
+    go true f e h = let z = eqb-true b 0 f in let k = h e in cc
+    go false f e h = absurd (true≢false (sym e))
+
+module _ (s : List ℕ) (held : Bytes s) (e : firstOf (checkRows s) ≡ Ok) where
+  abbrev w : ℕ → ℕ
+  w = rawAt s
+
+  -- the mask bytes with zeros up to a whole word are the end of the script
+  masks-padded : paddedBytes (givenIn s .masks) ≡ drop (4 * w 6) s
+  unfolding paddedBytes givenIn
+  masks-padded =
+      let p = passed s e in
+      let m = 4 * w 6 in
+      let n = w 7 in
+      let f = p .fine .bytes in
+      let k : length (drop (m + n) s) ≡ 4 * padded n - n = omega (arith, length-drop (m + n) s, layout s p .all) in
+      rw (masks-length s e)
+      (ap (λ (r : List ℕ). take n (drop m s) ++ r)
+      (sym (drop-drop n m s ∙ zero-bytes (drop (m + n) s) (layout s p .zeros) ∙ ap (λ (x : ℕ). replicate x 0) k)) ∙
+      take-append-drop n (drop m s))
+
+  -- the header is words 0 to 7
+  header-words : headerWords (givenIn s .scale) (w 3) (w 5) (w 7) ≡ wordsFrom w 0 8
+  unfolding wordsFrom givenIn
+  header-words =
+      let p = passed s e in
+      let l = layout s p in
+      rw (l .version, signed-bits (w 1) (word-small s held 1), l .offset, p .fine .masks, p .fine .commands)
+
+  -- the parameters end where the commands start
+  params-end : paramWords (givenIn s .params) ≡ wordsFrom w 8 (w 3)
+  unfolding givenIn
+  params-end =
+      param-words w (word-small s held) ∙ ap (λ (n : ℕ). wordsFrom w 8 n) (sym (layout s (passed s e) .params))
+
+  -- so they have as many words as word 3 says
+  pub params-many : length (paramWords (givenIn s .params)) ≡ w 3
+  params-many = ap length params-end ∙ from-length w 8 (w 3)
+
+  -- header, parameters and commands are all words before the mask bytes
+  all-words : wordsFrom w 0 8 ++ (wordsFrom w 8 (w 3) ++ wordsFrom w (w 4) (w 5)) ≡ wordsFrom w 0 (w 6)
+  all-words =
+      let f = passed s e .fine in
+      let n : 8 + (w 3 + w 5) ≡ w 6 = omega (arith, f .commands, f .masks) in
+      rw (f .commands, sym (words-split w 8 (w 3) (w 5))) (sym (words-split w 0 8 (w 3 + w 5)) ∙ ap (wordsFrom w 0) n)
+
+  -- where the command words that are written are its own, so are all words
+  words-again : commandWords (givenIn s .commands) ≡ wordsFrom w (w 4) (w 5) →
+      scriptWords (givenIn s) ≡ wordsFrom w 0 (w 6)
+  unfolding scriptWords
+  words-again c =
+      rw (params-end, c, from-length w 8 (w 3), from-length w (w 4) (w 5), masks-length s e)
+      (ap (λ (l : List ℕ). l ++ (wordsFrom w 8 (w 3) ++ wordsFrom w (w 4) (w 5))) header-words ∙ all-words)
+
+  -- and all bytes
+  pub script-again : commandWords (givenIn s .commands) ≡ wordsFrom w (w 4) (w 5) → scriptFor (givenIn s) ≡ s
+  unfolding scriptFor
+  script-again c =
+      let f = passed s e .fine in
+      let n : 4 * (0 + w 6) ≤ length s = omega (arith, f .ends, f .masks) in
+      rw (words-again c, masks-padded, bytes-from s held 0 (w 6) n) (take-append-drop (4 * w 6) s)

@@ -1,0 +1,4 @@
+pub mod Filling
+pub mod Searching
+pub mod Verdicts
+pub mod Results

@@ -1,0 +1,42 @@
+// What the cases of writing and of reading share.
+use crate::judging::Verdict;
+use crate::lending::fill_words;
+use io::read_full;
+
+// The bytes of the nine words that start a case.
+pub(crate) const HEAD: usize = 36;
+
+// There is place for more words and bytes than a script may have.
+pub(crate) const HELD_WORDS: usize = 16400;
+
+pub(crate) const HELD_BYTES: usize = 65600;
+
+pub(crate) enum Seen {
+    // The file ends within the case, or the case is too large.
+    Cut,
+    Run(Verdict),
+}
+
+// Reads bytes, and says whether they are all there.
+pub(crate) fn read_bytes(file: i32, bytes: &mut [u8]) -> bool {
+    read_full(file, bytes) == bytes.len()
+}
+
+// Reads words, and says whether they are all there.
+pub(crate) fn read_words(file: i32, words: &mut [i32]) -> bool {
+    let mut bytes = [0u8; HELD_BYTES];
+    read_words_by(file, &mut bytes, words)
+}
+
+// Reads words by way of their bytes.
+fn read_words_by(file: i32, bytes: &mut [u8], words: &mut [i32]) -> bool {
+    let end = 4 * words.len();
+    if bytes.len() < end {
+        return false;
+    }
+    if !read_bytes(file, &mut bytes[..end]) {
+        return false;
+    }
+    fill_words(words, bytes);
+    true
+}

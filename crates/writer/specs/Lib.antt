@@ -1,0 +1,4 @@
+pub mod Pieces
+pub mod ToWrite
+pub mod ParamWords
+pub mod Refusals
