@@ -1,9 +1,9 @@
--- Commands and pieces: those that the writer takes pass the reader's tests, wherever they stand among
--- a script's words, and those of a script that passes them are sound pieces with the commands' masks.
--- Assumes nothing.
-use mathlib.Core.Path.{_≡_, refl, subst, sym, ap, _∙_}
+-- Commands and pieces: whole pieces are read as commands, wherever they stand among a script's words;
+-- those that the writer takes pass the reader's tests; and those of a script that passes them are sound
+-- pieces with the commands' masks. Assumes nothing.
+use mathlib.Core.Path.{_≡_, refl, sym, ap, _∙_}
 use mathlib.Core.Bool.{Bool, true, false, cond}
-use mathlib.Core.List.{List, [], _∷_, _++_}
+use mathlib.Core.List.{List, [], _∷_}
 use Prim.Native.Nat.{ℕ, zero, suc, _+_, _-_, _≤_, _<_, _^_}
 use native.Mathlib.Omega.{arith}
 use lib.Dec.{eqb, ltb}
@@ -14,32 +14,53 @@ use Rattle.words.specs.Words.{rawAt}
 use Rattle.words.specs.Answers.{firstOf}
 use Rattle.header.specs.Header.{outside}
 use Rattle.header.proofs.Tests.{both-false, high, before-end}
-use Rattle.commands.specs.declared.reading.Command.{Command}
-use Rattle.commands.specs.Commands.{operandsOf, commandOf, nextAt, readAt, commandsFrom}
+use Rattle.commands.specs.declared.reading.Marking.the-variants.{Bad}
+use Rattle.commands.specs.declared.reading.Command.the-variants.{Mark}
+use Rattle.commands.specs.Commands.{operandsOf, commandOf, nextAt, readAt, CommandAt, commandsFrom}
 use Rattle.commands.specs.Faults.{maskPast, isBad, hasBadMask, faultRows, commandRows}
-use Rattle.commands.proofs.Laws.{none, first, from-start, rows-first, rows-none}
+use Rattle.commands.proofs.Laws.{none, first, from-start}
 use Rattle.script.specs.Script.{commandsIn, checkRows}
 use Rattle.writer.specs.Pieces.{Piece, pieceWords, joined, Whole, isMask, givenOperands, bytesTaken, started}
 use Rattle.writer.specs.Pieces.{startsFrom}
 use Rattle.writer.specs.Refusals.{badPiece, tooLong, pieceRows}
-use Rattle.writer.proofs.Cutting.{mask-two, started-whole}
+use Rattle.writer.proofs.Cutting.{mask-two}
 use Rattle.writer.proofs.PieceFaults.{NoneHold, taken-left}
 use Rattle.readback.specs.ReadBack.{wordsFrom, scriptPieces, scriptPiece}
 use Rattle.readback.proofs.Accepted.{raw-drop, read-fine, behind, along-commands, pieces, next-pieces}
 use Rattle.readback.proofs.Shortened.{words-length, all-left, none-left}
-use Rattle.round_trips.specs.RoundTrips.{Bytes, Part, partsIn, partsOf}
-use Rattle.round_trips.proofs.WordBytes.{Holds, holds-back, from-small, word-small}
+use Rattle.round_trips.specs.RoundTrips.{Bytes, Part, partsIn, partsOf, pieceWord}
+use Rattle.round_trips.proofs.WordBytes.{Holds, holds-front, holds-back, from-small, word-small}
 use Rattle.round_trips.proofs.EndToEnd.{Sound, mask, plain, partOf, partsOfPieces}
 use Rattle.round_trips.proofs.EndToEnd as E
 
 -- ---- kinds
+-- one that is greater is another
+unlike : (k j : ℕ) → j < k → eqb k j ≡ false
+unlike k j l = ne-eqb k j (λ e. omega arith)
+
+-- there is none above 9
+no-command : (w : ℕ → ℕ) (i k : ℕ) → 9 < k → commandOf w i k ≡ Mark Bad
+unfolding commandOf
+no-command w i k l =
+    rw (
+      unlike k 1 (omega arith),
+      unlike k 2 (omega arith),
+      unlike k 3 (omega arith),
+      unlike k 4 (omega arith),
+      unlike k 5 (omega arith),
+      unlike k 6 (omega arith),
+      unlike k 7 (omega arith),
+      unlike k 8 (omega arith),
+      unlike k 9 (omega arith),
+    )
+
 module _ (w : ℕ → ℕ) (i bytes : ℕ) where
   -- the mask of a command, where it is one
-  abbrev maskAt : Part
+  abbrev pub maskAt : Part
   maskAt = record { start = w (i + 1); bytes = w (i + 2) }
 
   -- a command is bad if its kind is not from 1 to 9, and has a mask if its kind is one
-  by-kind : (k : ℕ) →
+  pub by-kind : (k : ℕ) →
       (isBad (commandOf w i k) ≡ outside 1 9 k) ×
       ((hasBadMask bytes (commandOf w i k) ≡ cond (isMask k) (maskPast (w (i + 1)) (w (i + 2)) bytes) false) ×
       (partsIn (commandOf w i k) ≡ cond (isMask k) (maskAt ∷ []) []))
@@ -56,76 +77,117 @@ module _ (w : ℕ → ℕ) (i bytes : ℕ) where
   by-kind (suc (suc (suc (suc (suc (suc (suc (suc (suc zero))))))))) = (refl, (refl, refl))
   by-kind (suc (suc (suc (suc (suc (suc (suc (suc (suc (suc k)))))))))) =
       let n = suc (suc (suc (suc (suc (suc (suc (suc (suc (suc k))))))))) in
-      let no : (j : ℕ) → j ≤ 9 → eqb n j ≡ false = λ j l. ne-eqb n j (λ e. omega arith) in
-      rw (
-        high 1 9 n (omega arith),
-        no 1 (omega arith),
-        no 2 (omega arith),
-        no 3 (omega arith),
-        no 4 (omega arith),
-        no 5 (omega arith),
-        no 6 (omega arith),
-        no 7 (omega arith),
-        no 8 (omega arith),
-        no 9 (omega arith),
-      ) (refl, (refl, refl))
+      rw (no-command w i n (omega arith), high 1 9 n (omega arith), unlike n 2 (omega arith), unlike n 3 (omega arith))
+      (refl, (refl, refl))
 
--- ---- pieces that the writer takes
+-- ---- commands that pieces are read as
+-- a command is made of its own words, wherever they stand
+command-moved : (v w : ℕ → ℕ) (i k : ℕ) → ((j : ℕ) → j < 1 + operandsOf k → w (i + j) ≡ v j) →
+    commandOf w i k ≡ commandOf v 0 k
+unfolding commandOf operandsOf
+command-moved v w i zero h = refl
+command-moved v w i (suc zero) h = rw (h 1 (omega arith), h 2 (omega arith))
+command-moved v w i (suc (suc zero)) h = rw (h 1 (omega arith), h 2 (omega arith))
+command-moved v w i (suc (suc (suc zero))) h = rw (h 1 (omega arith), h 2 (omega arith))
+command-moved v w i (suc (suc (suc (suc zero)))) h = refl
+command-moved v w i (suc (suc (suc (suc (suc zero))))) h =
+    let a : i + 1 + 1 ≡ i + 2 = omega arith in
+    rw (h 1 (omega arith), a, h 2 (omega arith))
+command-moved v w i (suc (suc (suc (suc (suc (suc zero)))))) h =
+    let a : i + 1 + 1 ≡ i + 2 = omega arith in
+    rw (h 1 (omega arith), a, h 2 (omega arith))
+command-moved v w i (suc (suc (suc (suc (suc (suc (suc zero))))))) h =
+    let a : i + 1 + 1 ≡ i + 2 = omega arith in
+    let b : i + 3 + 1 ≡ i + 4 = omega arith in
+    let c : i + 5 + 1 ≡ i + 6 = omega arith in
+    rw (a, b, c)
+    (rw (
+      h 1 (omega arith),
+      h 2 (omega arith),
+      h 3 (omega arith),
+      h 4 (omega arith),
+      h 5 (omega arith),
+      h 6 (omega arith),
+    ))
+command-moved v w i (suc (suc (suc (suc (suc (suc (suc (suc zero)))))))) h = refl
+command-moved v w i (suc (suc (suc (suc (suc (suc (suc (suc (suc zero))))))))) h = refl
+command-moved v w i (suc (suc (suc (suc (suc (suc (suc (suc (suc (suc k)))))))))) h =
+    let n = suc (suc (suc (suc (suc (suc (suc (suc (suc (suc k))))))))) in
+    no-command w i n (omega arith) ∙ sym (no-command v 0 n (omega arith))
+
+-- words that stand from word i on, one by one
+holds-at : (w : ℕ → ℕ) (i : ℕ) (ns : List ℕ) → Holds w i ns → (j : ℕ) → j < length ns → w (i + j) ≡ getD ns j 0
+holds-at w i [] h j l = absurd (omega arith)
+holds-at w i (n ∷ ns) h zero l = let z : i + 0 ≡ i = omega arith in rw z (h .0)
+holds-at w i (n ∷ ns) h (suc j) l =
+    let e : i + suc j ≡ i + 1 + j = omega arith in
+    rw e (holds-at w (i + 1) ns (h .1) j (omega arith))
+
+-- the commands of pieces, the first of which stands at a place
+unfoldable pub commandsAs : ℕ → List Piece → List CommandAt
+commandsAs place [] = []
+commandsAs place (p ∷ ps) =
+    record { place = place; command = commandOf (pieceWord p) 0 (p .kind) } ∷
+    commandsAs (place + length (pieceWords p)) ps
+
+-- are those of the words that hold them
+pub commands-as : (b : ℕ) (w : ℕ → ℕ) (last i : ℕ) (ps : List Piece) → Whole operandsOf ps → Holds w i (joined ps) →
+    i + length (joined ps) ≡ last → commandsFrom (last - i) b w last i ≡ commandsAs (b + i) ps
+unfolding commandsAs joined readAt
+commands-as b w last i [] g h e = none b w last (last - i) i (omega arith)
+commands-as b w last i (p ∷ ps) g h e =
+    let q = pieceWords p in
+    let rest = joined ps in
+    let l : i + (length q + length rest) ≡ last = omega (arith, length-append q rest) in
+    let next : nextAt w i ≡ i + length q = rw (h .0) (omega (arith, g .0)) in
+    let a : b + (i + length q) ≡ b + i + length q = omega arith in
+    let behind = commands-as b w last (i + length q) ps (g .1) (holds-back w i (i + length q) q rest refl h)
+    (omega (arith, l)) in
+    let words : (j : ℕ) → j < 1 + operandsOf (p .kind) → w (i + j) ≡ pieceWord p j =
+    λ j k. holds-at w i q (holds-front w i q rest h) j (omega (arith, g .0)) in
+    let here : readAt w last i .command ≡ commandOf (pieceWord p) 0 (p .kind) =
+    rw (le-ltb last (nextAt w i) (omega (arith, l)))
+    (ap (commandOf w i) (h .0) ∙ command-moved (pieceWord p) w i (p .kind) words) in
+    rw (first b w last i (omega arith), here, next, behind, a)
+
+-- ---- pieces that the writer takes, with their starts
 -- a mask that starts where those before it end and takes no more bytes than are left is not past the
 -- mask bytes
-mask-there : (n left bytes i : ℕ) (w : ℕ → ℕ) (ops rest : List ℕ) → length ops ≡ 1 → getD ops 0 0 ≤ left →
-    n + left ≤ bytes → bytes ≤ 65536 → Holds w (i + 1) (n ∷ (ops ++ rest)) →
-    maskPast (w (i + 1)) (w (i + 2)) bytes ≡ false
+mask-there : (n len left bytes : ℕ) → len ≤ left → n + left ≤ bytes → bytes ≤ 65536 → maskPast n len bytes ≡ false
 unfolding maskPast
-mask-there n left bytes i w [] rest e l s f h = absurd (omega arith)
-mask-there n left bytes i w (len ∷ ops) rest e l s f h =
-    let j : i + 2 ≡ i + 1 + 1 = omega arith in
-    rw (j, h .0, h .1 .0, lt-leb (2 ^ 31) n (omega arith))
-    (before-end len bytes (n + len) (omega arith) (omega arith))
+mask-there n len left bytes l s f =
+    rw (lt-leb (2 ^ 31) n (omega arith)) (before-end len bytes (n + len) (omega arith) (omega arith))
 
-module _ (b bytes : ℕ) (w : ℕ → ℕ) (last : ℕ) (few : bytes ≤ 65536) where
-  -- so is that of a piece, if it is one
-  piece-mask : (n left i : ℕ) (p : Piece) (rest : List ℕ) → length (p .operands) ≡ givenOperands (p .kind) →
-      tooLong (bytesTaken p) left ≡ false → n + left ≤ bytes → Holds w (i + 1) (started n p .operands ++ rest) →
-      (m : Bool) → isMask (p .kind) ≡ m → cond m (maskPast (w (i + 1)) (w (i + 2)) bytes) false ≡ false
-  unfolding givenOperands
-  piece-mask n left i p rest e t s h true m =
-      let taken = taken-left (getD (p .operands) 0 0) left (rw m at t) in
-      mask-there n left bytes i w (p .operands) rest (rw m at e) taken s few (rw m at h)
-  piece-mask n left i p rest e t s h false m = refl
+-- none of the tests holds of the command of a piece
+piece-passes : (n place left bytes : ℕ) (p : Piece) → badPiece p ≡ false → tooLong (bytesTaken p) left ≡ false →
+    n + left ≤ bytes → bytes ≤ 65536 →
+    NoneHold (faultRows bytes place (commandOf (pieceWord (started n p)) 0 (p .kind)))
+piece-passes n place left bytes p k t s f =
+    let kind = both-false (outside 1 9 (p .kind)) (ltb (length (p .operands)) (givenOperands (p .kind))) k .0 in
+    let c = by-kind (pieceWord (started n p)) 0 bytes (p .kind) in
+    (c .0 ∙ kind, (c .1 .0 ∙ by (isMask (p .kind)) t, tt))
+  where
+    by : (b : Bool) → tooLong (cond b (getD (p .operands) 0 0) 0) left ≡ false →
+        cond b
+        (maskPast (getD (cond b (n ∷ p .operands) (p .operands)) 0 0)
+        (getD (cond b (n ∷ p .operands) (p .operands)) 1 0) bytes) false ≡ false
+    by true t =
+        let len = getD (p .operands) 0 0 in
+        mask-there n len left bytes (taken-left len left t) s f
+    by false t = refl
 
-  -- none of the tests holds of the command that a piece is read as
-  piece-passes : (n left i : ℕ) (p : Piece) (rest : List ℕ) → length (p .operands) ≡ givenOperands (p .kind) →
-      badPiece p ≡ false → tooLong (bytesTaken p) left ≡ false → n + left ≤ bytes →
-      Holds w i (pieceWords (started n p) ++ rest) → nextAt w i ≤ last →
-      NoneHold (faultRows bytes (b + i) (readAt w last i .command))
-  unfolding readAt
-  piece-passes n left i p rest e k t s h l =
-      let kind = both-false (outside 1 9 (p .kind)) (ltb (length (p .operands)) (givenOperands (p .kind))) k .0 in
-      let read : readAt w last i .command ≡ commandOf w i (p .kind) =
-      rw (le-ltb last (nextAt w i) l) (ap (commandOf w i) (h .0)) in
-      let c = by-kind w i bytes (p .kind) in
-      subst (λ (c : Command). NoneHold (faultRows bytes (b + i) c)) (sym read)
-      (c .0 ∙ kind, (c .1 .0 ∙ piece-mask n left i p rest e t s (h .1) (isMask (p .kind)) refl, tt))
-
-  -- nor of the commands that pieces are read as, first to last
-  pub pieces-pass : (n place left i : ℕ) (ps : List Piece) → Whole givenOperands ps →
-      NoneHold (pieceRows place left ps) → n + left ≤ bytes → Holds w i (joined (startsFrom n ps)) →
-      i + length (joined (startsFrom n ps)) ≡ last →
-      NoneHold (commandRows bytes (commandsFrom (last - i) b w last i))
-  unfolding pieceRows startsFrom joined
-  pieces-pass n place left i [] g c s h e = rw (rows-none b w last bytes i (omega arith)) tt
-  pieces-pass n place left i (p ∷ ps) g c s h e =
-      let t = bytesTaken p in
-      let q = pieceWords (started n p) in
-      let rest = joined (startsFrom (n + t) ps) in
-      let j : nextAt w i ≡ i + length q = rw (h .0) (omega (arith, started-whole n p (g .0))) in
-      let l : i + (length q + length rest) ≡ last = omega (arith, length-append q rest) in
-      let taken = taken-left t left (c .1 .0) in
-      let here = piece-passes n left i p rest (g .0) (c .0) (c .1 .0) s h (omega (arith, l)) in
-      let behind = pieces-pass (n + t) (place + length (pieceWords p)) (left - t) (nextAt w i) ps (g .1) (c .1 .1)
-      (omega (arith, taken)) (holds-back w i (nextAt w i) q rest (sym j) h) (omega (arith, l)) in
-      rw (rows-first b w last bytes i (omega arith)) (here .0, (here .1 .0, behind))
+-- nor of those of all of them, first to last
+pub pieces-pass : (n place at left bytes : ℕ) (ps : List Piece) → NoneHold (pieceRows at left ps) →
+    n + left ≤ bytes → bytes ≤ 65536 → NoneHold (commandRows bytes (commandsAs place (startsFrom n ps)))
+unfolding pieceRows startsFrom commandsAs commandRows
+pieces-pass n place at left bytes [] c s f = tt
+pieces-pass n place at left bytes (p ∷ ps) c s f =
+    let t = bytesTaken p in
+    let l = taken-left t left (c .1 .0) in
+    let here = piece-passes n place left bytes p (c .0) (c .1 .0) s f in
+    let behind = pieces-pass (n + t) (place + length (pieceWords (started n p))) (at + length (pieceWords p)) (left - t)
+    bytes ps (c .1 .1) (omega arith) f in
+    (here .0, (here .1 .0, behind))
 
 -- ---- pieces of a script
 module _ (w : ℕ → ℕ) (i : ℕ) where

@@ -31,10 +31,11 @@ use Rattle.writer.proofs.Laying.{params-length}
 use Rattle.writer.proofs.Sizes.{script-length}
 use Rattle.writer.proofs.Answering.{Unrefused, unrefused}
 use Rattle.readback.specs.ReadBack.{scriptPieces, shortened, givenIn}
-use Rattle.round_trips.specs.RoundTrips.{HeldGiven, ReadsBack, kept}
+use Rattle.round_trips.specs.RoundTrips.{HeldGiven, kept, callsGiven, callsMade, ReadsBack}
 use Rattle.round_trips.proofs.WordBytes.{numbers-back, words-held}
 use Rattle.round_trips.proofs.Starts.{given-whole, starts-whole, starts-back}
-use Rattle.round_trips.proofs.Commands.{pieces-pass}
+use Rattle.round_trips.proofs.Commands.{commandsAs, commands-as, pieces-pass}
+use Rattle.round_trips.proofs.CallsMade.{pieces-call}
 use Rattle.round_trips.proofs.Parameters.{number-there, sevens, params-back}
 use Rattle.round_trips.proofs.LaidOut.{LaidOut, laid-out, paramCount, commandCount, wordCount, zerosBehind}
 use Rattle.round_trips.proofs.LaidOut.{commands-read, masks-there, zeros-there}
@@ -125,18 +126,26 @@ module _ (g : Given) (h : HeldGiven g) (c : Unrefused g) where
       (omega (arith, k .0, k .1 .0, k .1 .1 .0, k .1 .1 .1 .0)) in
       (scaled, (blues, (others, (family, (familyOthers, (pairs, tt))))))
 
-  -- nor of those of the commands
-  commands-pass : NoneHold (commandRows (rawAt s 7) (commandsIn s))
+  -- its commands are those of the pieces with their starts
+  commands-there : commandsIn s ≡ commandsAs (8 + paramCount g) (startsFrom 0 (piecesIn (g .commands)))
   unfolding commandWords
-  commands-pass =
-      let n = length (g .masks) in
+  commands-there =
+      let ps = piecesIn (g .commands) in
       let at = 8 + paramCount g in
       let part = rawAt (drop (4 * at) s) in
+      let z : at + 0 ≡ at = omega arith in
+      let whole = given-whole 0 (length (g .masks)) (map bitsOf (g .commands)) (c .pieces) in
+      rw (there .commandsAt, there .commands, from-start at part (commandCount g))
+      (rw z at (commands-as at part (commandCount g) 0 (startsFrom 0 ps) (starts-whole 0 ps whole) (commands-read g c)
+      (omega arith)))
+
+  -- none of whose tests holds
+  commands-pass : NoneHold (commandRows (rawAt s 7) (commandsIn s))
+  commands-pass =
+      let n = length (g .masks) in
       let few : n ≤ 65536 = omega (arith, script-length g, c .short) in
-      let ps = piecesIn (g .commands) in
-      rw (there .masks, there .commandsAt, there .commands, from-start at part (commandCount g))
-      (pieces-pass at n part (commandCount g) few 0 0 n 0 ps (given-whole 0 n (map bitsOf (g .commands)) (c .pieces))
-      (c .pieces) (omega arith) (commands-read g c) (omega arith))
+      rw (there .masks, commands-there)
+      (pieces-pass 0 (8 + paramCount g) 0 n n (piecesIn (g .commands)) (c .pieces) (omega arith) few)
 
   -- so it is accepted
   accepted : firstOf (checkRows s) ≡ Ok
@@ -164,6 +173,15 @@ module _ (g : Given) (h : HeldGiven g) (c : Unrefused g) where
       let n = length (g .masks) in
       rw (there .masks, there .masksAt, masks-there g) (take-at (g .masks) (zerosBehind n) n refl)
 
+  -- and its calls those given
+  calls-back : callsMade s ≡ callsGiven (g .masks) (piecesIn (g .commands))
+  unfolding paddedBytes
+  calls-back =
+      let n = length (g .masks) in
+      rw (there .masksAt, commands-there)
+      (pieces-call s (g .masks) (zerosBehind n) (4 * wordCount g) (masks-there g) 0 (8 + paramCount g) 0 n
+      (piecesIn (g .commands)) (c .pieces) (omega arith))
+
   -- it says what was given
   says-given : givenIn s ≡ kept g
   unfolding givenIn
@@ -179,4 +197,4 @@ module _ (g : Given) (h : HeldGiven g) (c : Unrefused g) where
 pub written-back : (g : Given) (room : ℕ) → HeldGiven g → writeRefuses (writeAnswer g room) ≡ false → ReadsBack g
 written-back g room h e =
     let c = unrefused g room e in
-    record { accepted = accepted g h c; same = says-given g h c }
+    record { accepted = accepted g h c; same = says-given g h c; calls = calls-back g h c }

@@ -1,23 +1,20 @@
--- What the writer's contract says is written is what reads back. Assumes nothing.
-use mathlib.Core.Path.{_≡_, refl, sym, ap, _∙_}
+-- What the writer's contract says is written is what reads back and makes the calls. Assumes nothing.
+use mathlib.Core.Path.{_≡_, refl, subst, sym, ap, _∙_}
 use mathlib.Core.Bool.{Bool, true, false, cond, not}
 use mathlib.Core.List.{List}
-use Prim.Native.Nat.{ℕ, _+_, _<_}
+use Prim.Native.Nat.{ℕ, _<_}
 use native.Mathlib.Omega.{arith}
 use lib.Dec.{eqb}
 use lib.ListN.{length, take, drop}
 use lib.Seq.{take-at}
 use borrow.Author.Tests.{eq-eqb, eqb-true, eqb-false}
 use Rattle.words.specs.Rows.{firstOr}
-use Rattle.words.specs.Answers.{firstOf}
-use Rattle.script.specs.Script.{checkRows}
 use Rattle.writer.specs.declared.write_answer.WriteAnswer.the-variants.{Written, ScriptRoom}
 use Rattle.writer.specs.ToWrite.{Given, scriptFor}
 use Rattle.writer.specs.Refusals.{writeNumber, writtenBytes, writeRefuses, roomRow, writeAnswer, over, bufferBy}
 use Rattle.writer.specs.Refusals.{writeOf, Wrote}
 use Rattle.writer.proofs.Answering.{before, before-fine, refused-before, by-room}
-use Rattle.round_trips.specs.RoundTrips.{HeldGiven, WrittenBack}
-use Rattle.readback.specs.ReadBack.{givenIn}
+use Rattle.round_trips.specs.RoundTrips.{HeldGiven, SaysBack, WrittenBack}
 use Rattle.round_trips.proofs.Written.{written-back}
 
 -- an answer that is OK says how many bytes the script has
@@ -56,9 +53,4 @@ unfolding writeOf
 wrote-back g lent n left h w =
     let z : writeRefuses (writeAnswer g (length lent)) ≡ false =
     ap not (eq-eqb (writeNumber (writeAnswer g (length lent))) 0 (ap writeNumber (sym (w .answer)))) in
-    let r = written-back g (length lent) h z in
-    let e = written-bytes g lent n left w in
-    record {
-      accepted = ap (λ (s : List ℕ). firstOf (checkRows s)) e ∙ r .accepted;
-      same = ap givenIn e ∙ r .same;
-    }
+    subst (SaysBack g) (sym (written-bytes g lent n left w)) (written-back g (length lent) h z)

@@ -1,10 +1,10 @@
--- Request 1's round trips: what is written reads back, and a script that is read back is written as
--- the same bytes exactly if its masks lie end to end.
+-- Request 1's round trips: what is written reads back and makes the calls that were given, and a
+-- script that is read back is written as the same bytes exactly if its masks lie end to end.
 use mathlib.Core.Path.{_≡_}
-use mathlib.Core.List.{List, [], _∷_, _++_}
+use mathlib.Core.List.{List, [], _∷_, _++_, map}
 use Prim.Native.Nat.{ℕ, _+_, _-_, _<_}
-use lib.IntN.{ℤ, pos}
-use lib.ListN.{length, take, getD, replicate}
+use lib.IntN.{pos}
+use lib.ListN.{length, take, drop, getD, replicate}
 use mir.Syntax.{w32}
 use mir.Val.{SFits}
 use Rattle.fixed.specs.declared.Fixed.{Fixed}
@@ -17,10 +17,13 @@ use Rattle.words.specs.Answers.{firstOf}
 use Rattle.commands.specs.declared.reading.Marking.the-variants.{Bad, Stem, Mask, Counter, Clear, Close}
 use Rattle.commands.specs.declared.reading.Command.{Command}
 use Rattle.commands.specs.declared.reading.Command.the-variants.{Mark, Draw}
-use Rattle.commands.specs.Commands.{CommandAt}
-use Rattle.script.specs.Script.{commandsIn, checkRows}
+use Rattle.commands.specs.Commands.{CommandAt, commandOf}
+use Rattle.hints.specs.Calls.{Call}
+use Rattle.run.specs.Run.{Asked, callOf}
+use Rattle.script.specs.Script.{commandsIn, callsIn, checkRows}
 use Rattle.writer.specs.declared.write_answer.WriteAnswer.the-variants.{Written}
-use Rattle.writer.specs.ToWrite.{Given, given, scriptFor}
+use Rattle.writer.specs.Pieces.{Piece, pieceWords, bytesTaken, started}
+use Rattle.writer.specs.ToWrite.{Given, given, piecesIn, scriptFor}
 use Rattle.writer.specs.Refusals.{over, writeOf}
 use Rattle.readback.specs.ReadBack.{givenIn}
 
@@ -74,15 +77,37 @@ keptParams p =
 abbrev pub kept : Given → Given
 kept g = given (g .scale) (keptParams (g .params)) (g .commands) (g .masks)
 
--- 01's reader accepts it, and it says what was given
-pub record ReadsBack (g : Given) : Type 0 where
-  pub accepted : firstOf (checkRows (scriptFor g)) ≡ Ok
-  pub same : givenIn (scriptFor g) ≡ kept g
+-- word i of a piece
+abbrev pub pieceWord : Piece → ℕ → ℕ
+pieceWord p i = getD (pieceWords p) i 0
 
--- so, of every outcome that the writer's contract allows, do the bytes that it says are written
-pub record WrittenBack (g : Given) (bytes : ℕ) (left : List ℕ) : Type 0 where
-  pub accepted : firstOf (checkRows (take bytes left)) ≡ Ok
-  pub same : givenIn (take bytes left) ≡ kept g
+-- the call that a given piece asks for, by 01's commands; a mask is the first of the bytes that are
+-- left
+abbrev pub callGiven : List ℕ → Piece → Call
+callGiven left p = callOf left 0 (commandOf (pieceWord (started 0 p)) 0 (p .kind))
+
+-- the calls of pieces, whose masks take the bytes in turn
+unfoldable pub callsGiven : List ℕ → List Piece → List Call
+callsGiven left [] = []
+callsGiven left (p ∷ ps) = callGiven left p ∷ callsGiven (drop (bytesTaken p) left) ps
+
+-- the calls of a script's run, without their places
+abbrev pub callsMade : List ℕ → List Call
+callsMade s = map (λ (a : Asked). a .call) (callsIn s)
+
+-- 01's reader accepts a script, which says what was given, and its run makes the calls that were
+pub record SaysBack (g : Given) (s : List ℕ) : Type 0 where
+  pub accepted : firstOf (checkRows s) ≡ Ok
+  pub same : givenIn s ≡ kept g
+  pub calls : callsMade s ≡ callsGiven (g .masks) (piecesIn (g .commands))
+
+-- so does the script that is written
+abbrev pub ReadsBack : Given → Type 0
+ReadsBack g = SaysBack g (scriptFor g)
+
+-- and, of every outcome that the writer's contract allows, the bytes that it says are written
+abbrev pub WrittenBack : Given → ℕ → List ℕ → Type 0
+WrittenBack g bytes left = SaysBack g (take bytes left)
 
 -- ---- a script written again
 -- where a mask lies among the mask bytes
