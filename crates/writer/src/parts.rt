@@ -26,6 +26,13 @@ ghost use Rattle.writer.specs.ToWrite.{pairWords, numberWords, paramWord
 ghost use Rattle.writer.specs.ToWrite.{paddedBytes};
 ghost use Rattle.writer.specs.Refusals.{FineCommands, FineParams};
 
+// What every header says: its version, and that the parameters start behind it.
+const VERSION: i32 = layout::VERSION_ONE as i32;
+
+const PARAMS_START: i32 = layout::HEADER_WORDS as i32;
+
+const HEADER_WORDS: u32 = layout::HEADER_WORDS as u32;
+
 // The header, by the number of words of the parameters and of the commands, and that of the mask
 // bytes.
 pub(crate) fn store_header(script: &mut [u8], scale: Fixed, params: u32, commands: u32, bytes: u32)
@@ -33,12 +40,12 @@ pub(crate) fn store_header(script: &mut [u8], scale: Fixed, params: u32, command
     ensures { λ _. ⌜ now (script .exit) ≡ laid (now (script .entry)) 0 (headerWords scale params commands bytes) ⌝ }
 {
     let number = scale.bits;
-    let first = 8 + params;
+    let first = HEADER_WORDS + params;
     let end = first + commands;
     let words = [
-        1,
+        VERSION,
         number,
-        8,
+        PARAMS_START,
         params as i32,
         first as i32,
         commands as i32,
