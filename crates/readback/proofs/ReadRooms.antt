@@ -2,8 +2,8 @@
 -- nothing.
 use mathlib.Core.Path.{_≡_, refl, sym, _∙_}
 use mathlib.Core.Bool.{false}
-use mathlib.Core.List.{List, [], _∷_, _++_}
-use Prim.Native.Nat.{ℕ, zero, suc, _*_, _≤_, _<_}
+use mathlib.Core.List.{List, [], _∷_}
+use Prim.Native.Nat.{ℕ, _*_, _≤_, _<_}
 use native.Mathlib.Omega.{arith}
 use lib.Dec.{ltb}
 use lib.IntN.{ℤ}
@@ -18,36 +18,17 @@ use Rattle.words.specs.declared.answer.Answer.the-variants.{Ok, NoRoom}
 use Rattle.words.specs.Words.{rawAt}
 use Rattle.words.specs.Rows.{Row, row, firstOr}
 use Rattle.words.specs.Answers.{firstOf, numberOf}
-use Rattle.words.proofs.Rows.{Refusing, none-holds, found, onward}
+use Rattle.words.proofs.Rows.{none-holds, found, onward}
 use Rattle.words.proofs.Answers.{both-ok}
-use Rattle.header.specs.Header.{headerRows}
-use Rattle.header.specs.Params.{paramRows}
 use Rattle.header.proofs.Tests.{refusing}
-use Rattle.header.proofs.Fine.{header-refusing, params-refusing}
 use Rattle.commands.specs.Commands.{operandsOf}
-use Rattle.commands.specs.Faults.{commandRows}
-use Rattle.commands.proofs.Laws.{rows-refusing}
 use Rattle.writer.specs.Pieces.{piecesOf}
 use Rattle.writer.specs.ToWrite.{Given}
-use Rattle.script.specs.Script.{commandsIn, checkRows}
-use Rattle.script.proofs.Passed.{passed}
+use Rattle.script.specs.Script.{checkRows}
+use Rattle.script.proofs.Passed.{checks-refusing, passed}
 use Rattle.script.proofs.Results.{refused}
 use Rattle.readback.specs.ReadBack.{wordsFrom, scriptPieces, shortened, givenIn, readRows}
 use Rattle.readback.specs.ReadBack.{refusedBack, readBy, readBackOf, ReadAs}
-
--- ---- tests in two lists refuse if those of each do
-both-refusing : (rs qs : List (Row Answer)) → Refusing Ok rs → Refusing Ok qs → Refusing Ok (rs ++ qs)
-both-refusing [] qs h g j l = g j l
-both-refusing (r ∷ rs) qs h g zero l = h 0 (omega arith)
-both-refusing (r ∷ rs) qs h g (suc j) l = both-refusing rs qs (λ i m. h (suc i) (omega arith)) g j (omega arith)
-
--- every test of a script refuses
-checks-refusing : (s : List ℕ) → Refusing Ok (checkRows s)
-unfolding checkRows
-checks-refusing s =
-    let cs = commandRows (rawAt s 7) (commandsIn s) in
-    both-refusing (headerRows s) (paramRows (rawAt s) ++ cs) (header-refusing s)
-    (both-refusing (paramRows (rawAt s)) cs (params-refusing s) (rows-refusing (rawAt s 7) (commandsIn s)))
 
 module _ (s : List ℕ) where
   -- ---- how much is given

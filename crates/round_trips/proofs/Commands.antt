@@ -12,12 +12,13 @@ use borrow.Author.Tests.{ne-eqb, le-ltb, lt-leb}
 use Rattle.words.specs.declared.answer.Answer.the-variants.{Ok}
 use Rattle.words.specs.Words.{rawAt}
 use Rattle.words.specs.Answers.{firstOf}
+use Rattle.words.proofs.Words.{raw-drop}
 use Rattle.header.specs.Header.{outside}
 use Rattle.header.proofs.Tests.{both-false, high, before-end}
 use Rattle.commands.specs.declared.reading.Command.{Command}
 use Rattle.commands.specs.Commands.{operandsOf, commandOf, nextAt, readAt, commandsFrom}
 use Rattle.commands.specs.Faults.{maskPast, isBad, hasBadMask, faultRows, commandRows}
-use Rattle.commands.proofs.Laws.{none, first, from-start, rows-first, rows-none}
+use Rattle.commands.proofs.Laws.{none, first, from-start, rows-first, rows-none, read-fine}
 use Rattle.script.specs.Script.{commandsIn, checkRows}
 use Rattle.writer.specs.Pieces.{Piece, pieceWords, joined, Whole, isMask, givenOperands, bytesTaken, started}
 use Rattle.writer.specs.Pieces.{startsFrom}
@@ -25,7 +26,7 @@ use Rattle.writer.specs.Refusals.{badPiece, tooLong, pieceRows}
 use Rattle.writer.proofs.Cutting.{mask-two, started-whole}
 use Rattle.writer.proofs.PieceFaults.{NoneHold, taken-left}
 use Rattle.readback.specs.ReadBack.{wordsFrom, scriptPieces, scriptPiece}
-use Rattle.readback.proofs.Accepted.{raw-drop, read-fine, behind, along-commands, pieces, next-pieces}
+use Rattle.readback.proofs.Accepted.{behind, along-commands, pieces, next-pieces}
 use Rattle.readback.proofs.Shortened.{words-length, all-left, none-left}
 use Rattle.round_trips.specs.RoundTrips.{Bytes, Part, partsIn, partsOf}
 use Rattle.round_trips.proofs.WordBytes.{Holds, holds-back, from-small, word-small}

@@ -14,6 +14,7 @@ use Rattle.words.specs.declared.answer.Answer.the-variants.{Ok}
 use Rattle.words.specs.Words.{rawAt, negative}
 use Rattle.words.specs.Bytes.{bytesOf}
 use Rattle.words.specs.Answers.{firstOf}
+use Rattle.words.proofs.Words.{raw-drop}
 use Rattle.words.proofs.Rows.{none-holds}
 use Rattle.words.proofs.Laid.{bytes-length}
 use Rattle.header.specs.Header.{differs, outside, allZero, padded, lengthBad, headerRows}
@@ -30,7 +31,6 @@ use Rattle.writer.proofs.Laying.{signed-bits}
 use Rattle.writer.proofs.Sizes.{words-length, script-length}
 use Rattle.writer.proofs.Answering.{Unrefused}
 use Rattle.readback.specs.ReadBack.{wordsFrom, givenIn}
-use Rattle.readback.proofs.Accepted.{raw-drop}
 use Rattle.readback.proofs.ReadRooms.{masks-length}
 use Rattle.readback.proofs.Shortened.{words-length as from-length, words-split}
 use Rattle.round_trips.specs.RoundTrips.{Bytes}
