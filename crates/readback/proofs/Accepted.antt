@@ -8,7 +8,7 @@ use lib.ListN.{drop}
 use Rattle.words.specs.declared.answer.Answer.the-variants.{Ok}
 use Rattle.words.specs.Words.{rawAt}
 use Rattle.words.specs.Answers.{firstOf}
-use Rattle.words.proofs.Words.{raw-drop}
+use Rattle.words.proofs.Words.{raw-drop, from-length}
 use Rattle.commands.specs.Commands.{operandsOf, nextAt, readAt}
 use Rattle.commands.specs.Faults.{isBad}
 use Rattle.commands.proofs.Laws.{from-start, read-fine, along}
@@ -16,7 +16,7 @@ use Rattle.writer.specs.Pieces.{Piece, Whole}
 use Rattle.script.specs.Script.{checkRows}
 use Rattle.script.proofs.Passed.{passed}
 use Rattle.readback.specs.ReadBack.{scriptPiece, WholeCommands}
-use Rattle.readback.proofs.Shortened.{piecesLeft, all-left, none-left, first-left, words-length}
+use Rattle.readback.proofs.Shortened.{piecesLeft, all-left, none-left, first-left}
 
 -- ---- a script that passes all tests
 module _ (s : List ℕ) (e : firstOf (checkRows s) ≡ Ok) where
@@ -49,7 +49,7 @@ module _ (s : List ℕ) (e : firstOf (checkRows s) ≡ Ok) where
       along-commands (λ i. Whole operandsOf (pieces i))
       (λ i h. rw (none-left (rawAt s) (rawAt s 4) (rawAt s 5) i h) tt)
       (λ i h f w. rw (next-pieces i (read-fine behind (rawAt s 5) i f .0))
-      (words-length (rawAt s) (rawAt s 4 + i + 1) (operandsOf (rawAt s (rawAt s 4 + i))), w))
+      (from-length (rawAt s) (rawAt s 4 + i + 1) (operandsOf (rawAt s (rawAt s 4 + i))), w))
 
   -- where its words say that they are
   pub whole-commands : {first n : ℕ} → first ≡ rawAt s 4 → n ≡ rawAt s 5 → WholeCommands s first n

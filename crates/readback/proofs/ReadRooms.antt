@@ -15,7 +15,7 @@ use Rattle.fixed.specs.Integers.{signed}
 use Rattle.zones.specs.declared.state.HintParams.{HintParams}
 use Rattle.words.specs.declared.answer.Answer.{Answer}
 use Rattle.words.specs.declared.answer.Answer.the-variants.{Ok, NoRoom}
-use Rattle.words.specs.Words.{rawAt}
+use Rattle.words.specs.Words.{rawAt, wordsFrom}
 use Rattle.words.specs.Rows.{Row, row, firstOr}
 use Rattle.words.specs.Answers.{firstOf, numberOf}
 use Rattle.words.proofs.Rows.{none-holds, found, onward}
@@ -27,7 +27,7 @@ use Rattle.writer.specs.ToWrite.{Given}
 use Rattle.script.specs.Script.{checkRows}
 use Rattle.script.proofs.Passed.{checks-refusing, passed}
 use Rattle.script.proofs.Results.{refused}
-use Rattle.readback.specs.ReadBack.{wordsFrom, scriptPieces, shortened, givenIn, readRows}
+use Rattle.readback.specs.ReadBack.{scriptPieces, shortened, givenIn, readRows}
 use Rattle.readback.specs.ReadBack.{refusedBack, readBy, readBackOf, ReadAs}
 
 module _ (s : List ℕ) where

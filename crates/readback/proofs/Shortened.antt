@@ -3,77 +3,15 @@
 use mathlib.Core.Path.{_≡_, refl, ap, _∙_}
 use mathlib.Core.Bool.{Bool, true, false, cond}
 use mathlib.Core.List.{List, [], _∷_, _++_}
-use Prim.Native.Nat.{ℕ, zero, suc, _+_, _-_, _≤_, _<_}
+use Prim.Native.Nat.{ℕ, _+_, _-_, _≤_, _<_}
 use native.Mathlib.Omega.{arith}
 use lib.ListN.{length, take, drop, length-append, length-take}
-use lib.Seq.{take-at, drop-at}
+use Rattle.words.specs.Words.{wordsFrom}
+use Rattle.words.proofs.Words.{from-length, words-first, words-taken, words-left}
 use Rattle.commands.specs.Commands.{operandsOf}
 use Rattle.writer.specs.Pieces.{Piece, piecesOf, pieceWords, joined, Whole, isMask, givenOperands, unstarted}
 use Rattle.writer.proofs.Cutting.{no-pieces, first-piece, mask-two}
-use Rattle.readback.specs.ReadBack.{wordsFrom, shortened, scriptPiece}
-
-module _ (w : ℕ → ℕ) where
-  -- ---- n words from one on are n
-  pub words-length : (i n : ℕ) → length (wordsFrom w i n) ≡ n
-  unfolding wordsFrom
-  words-length i zero = refl
-  words-length i (suc n) = ap suc (words-length (i + 1) n)
-
-  -- the first of them
-  words-first : (i n : ℕ) → 0 < n → wordsFrom w i n ≡ w i ∷ wordsFrom w (i + 1) (n - 1)
-  unfolding wordsFrom
-  words-first i n h =
-      let e : n ≡ suc (n - 1) = omega arith in
-      ap (wordsFrom w i) e
-
-  -- the first of those that are left behind i others
-  pub words-onward : (from i n : ℕ) → i < n →
-      wordsFrom w (from + i) (n - i) ≡ w (from + i) ∷ wordsFrom w (from + (i + 1)) (n - (i + 1))
-  words-onward from i n h =
-      let e : from + i + 1 ≡ from + (i + 1) = omega arith in
-      let f : n - i - 1 ≡ n - (i + 1) = omega arith in
-      words-first (from + i) (n - i) (omega arith) ∙
-      ap (λ (k : ℕ). w (from + i) ∷ wordsFrom w k (n - i - 1)) e ∙
-      ap (λ (k : ℕ). w (from + i) ∷ wordsFrom w (from + (i + 1)) k) f
-
-  -- none
-  pub words-none : (i n : ℕ) → n ≤ 0 → wordsFrom w i n ≡ []
-  unfolding wordsFrom
-  words-none i n h =
-      let e : n ≡ 0 = omega arith in
-      ap (wordsFrom w i) e
-
-  -- some of them, and those behind
-  pub words-split : (i m n : ℕ) → wordsFrom w i (m + n) ≡ wordsFrom w i m ++ wordsFrom w (i + m) n
-  unfolding wordsFrom
-  words-split i zero n =
-      let e : 0 + n ≡ n = omega arith in
-      let f : i ≡ i + 0 = omega arith in
-      ap (wordsFrom w i) e ∙ ap (λ (k : ℕ). wordsFrom w k n) f
-  words-split i (suc m) n =
-      let e : suc m + n ≡ suc (m + n) = omega arith in
-      let f : i + 1 + m ≡ i + suc m = omega arith in
-      ap (wordsFrom w i) e ∙
-      ap (λ (l : List ℕ). w i ∷ l)
-      (words-split (i + 1) m n ∙ ap (λ (k : ℕ). wordsFrom w (i + 1) m ++ wordsFrom w k n) f)
-
-  -- the first m of n, and those behind
-  words-apart : (i m n : ℕ) → m ≤ n → wordsFrom w i n ≡ wordsFrom w i m ++ wordsFrom w (i + m) (n - m)
-  words-apart i m n h =
-      let e : n ≡ m + (n - m) = omega arith in
-      ap (wordsFrom w i) e ∙ words-split i m (n - m)
-
-  -- so the first m
-  words-taken : (i m n : ℕ) → m ≤ n → take m (wordsFrom w i n) ≡ wordsFrom w i m
-  words-taken i m n h =
-      ap (take m) (words-apart i m n h) ∙
-      take-at (wordsFrom w i m) (wordsFrom w (i + m) (n - m)) m (words-length i m)
-
-  -- and those behind them
-  words-left : (i m n : ℕ) → m ≤ n → drop m (wordsFrom w i n) ≡ wordsFrom w (i + m) (n - m)
-  words-left i m n h =
-      ap (drop m) (words-apart i m n h) ∙
-      drop-at (wordsFrom w i m) (wordsFrom w (i + m) (n - m)) m (words-length i m)
+use Rattle.readback.specs.ReadBack.{shortened, scriptPiece}
 
 -- ---- the pieces of n words from a first one on, without those of the words before word `at`
 abbrev pub piecesLeft : (ℕ → ℕ) → ℕ → ℕ → ℕ → List Piece
@@ -129,7 +67,7 @@ module _ (w : ℕ → ℕ) (first n : ℕ) where
         let k = operandsOf (w (first + at)) in
         let ws = wordsFrom w (first + at + 1) (n - at - 1) in
         let f = rw (cut h) at g in
-        omega (arith, f .0, length-take k ws, words-length w (first + at + 1) (n - at - 1))
+        omega (arith, f .0, length-take k ws, from-length w (first + at + 1) (n - at - 1))
 
     -- nor is one of those behind the first
     pub whole-left : at < n → Whole operandsOf (piecesLeft w first n at) →
@@ -172,7 +110,7 @@ pub unstarted-length : (w : ℕ → ℕ) (i : ℕ) →
     length (pieceWords (unstarted (scriptPiece w i))) ≡ 1 + givenOperands (w i)
 unstarted-length w i =
     let k = givenOperands (w i) in
-    ap length (unstarted-words w i) ∙ omega (arith, words-length w (i + 1 + operandsOf (w i) - k) k)
+    ap length (unstarted-words w i) ∙ omega (arith, from-length w (i + 1 + operandsOf (w i) - k) k)
 
 -- ---- the words of pieces without their starts: of none
 pub no-shortened : shortened [] ≡ []

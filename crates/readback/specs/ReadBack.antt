@@ -2,7 +2,7 @@
 use mathlib.Core.Path.{_≡_}
 use mathlib.Core.Bool.{Bool, true, false}
 use mathlib.Core.List.{List, [], _∷_, _++_, map}
-use Prim.Native.Nat.{ℕ, zero, suc, _+_, _*_, _≤_}
+use Prim.Native.Nat.{ℕ, _+_, _*_, _≤_}
 use lib.Dec.{ltb}
 use lib.IntN.{ℤ, pos}
 use lib.ListN.{length, take, drop, replicate}
@@ -13,7 +13,7 @@ use Rattle.zones.specs.declared.state.HintParams.{HintParams}
 use Rattle.zones.specs.Zones.{maxBlues, noBlue}
 use Rattle.words.specs.declared.answer.Answer.{Answer}
 use Rattle.words.specs.declared.answer.Answer.the-variants.{Ok, NoRoom}
-use Rattle.words.specs.Words.{rawAt, numberAt}
+use Rattle.words.specs.Words.{rawAt, numberAt, wordsFrom}
 use Rattle.words.specs.Rows.{Row, row}
 use Rattle.words.specs.Answers.{firstOf, refuses}
 use Rattle.header.specs.Params.{paramsOf}
@@ -25,11 +25,6 @@ use Rattle.writer.specs.Refusals.{over}
 use Rattle.readback.specs.declared.reading_back.ReadBack.{ReadBack}
 
 -- ---- what a script says
--- n words from word i on
-unfoldable pub wordsFrom : (ℕ → ℕ) → ℕ → ℕ → List ℕ
-wordsFrom w i zero = []
-wordsFrom w i (suc n) = w i ∷ wordsFrom w (i + 1) n
-
 -- the pieces of a script's commands, which are as many words as word 5 says, from the offset in
 -- word 4 on
 abbrev pub scriptPieces : List ℕ → List Piece

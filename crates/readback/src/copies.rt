@@ -8,11 +8,11 @@ ghost use mathlib.Core.List.{map};
 ghost use Prim.Native.Nat.{_+_, _*_, _≤_};
 ghost use lib.ListN.{length, take, drop};
 ghost use Rattle.fixed.specs.Integers.{signed};
-ghost use Rattle.words.specs.Words.{rawAt};
+ghost use Rattle.words.specs.Words.{rawAt, wordsFrom};
 ghost use Rattle.commands.specs.Commands.{operandsOf};
 ghost use Rattle.writer.specs.Pieces.{piecesOf, pieceWords, givenOperands, unstarted};
 ghost use Rattle.writer.specs.Refusals.{over};
-ghost use Rattle.readback.specs.ReadBack.{wordsFrom, shortened, placed, scriptPiece, WholeCommands};
+ghost use Rattle.readback.specs.ReadBack.{shortened, placed, scriptPiece, WholeCommands};
 
 // How many words the commands have without the starts of their masks.
 pub(crate) fn count_short(script: &[u8], first: usize, n: usize) -> usize

@@ -8,11 +8,11 @@ use lib.IntN.{ℤ}
 use lib.ListN.{length, length-append, length-map}
 use borrow.Author.Needs.{needs}
 use Rattle.fixed.specs.Integers.{signed}
-use Rattle.words.specs.Words.{rawAt}
+use Rattle.words.specs.Words.{rawAt, wordsFrom}
 use Rattle.commands.specs.Commands.{operandsOf}
 use Rattle.writer.specs.Pieces.{piecesOf, pieceWords, Whole, givenOperands, unstarted}
 use Rattle.writer.specs.Refusals.{over}
-use Rattle.readback.specs.ReadBack.{wordsFrom, scriptPiece, shortened, placed}
+use Rattle.readback.specs.ReadBack.{scriptPiece, shortened, placed}
 use Rattle.readback.proofs.Placing.{placed-start, placed-none, placed-behind}
 use Rattle.readback.proofs.Shortened.{piecesLeft, all-left, none-left, whole-left, operands-left}
 use Rattle.readback.proofs.Shortened.{unstarted-length, no-shortened, shortened-left}

@@ -5,10 +5,10 @@ use Prim.Native.Nat.{_+_, _-_, _≤_}
 use native.Mathlib.Omega.{arith}
 use lib.ListN.{length}
 use borrow.Author.Needs.{needs}
-use Rattle.words.specs.Words.{rawAt}
+use Rattle.words.specs.Words.{rawAt, wordsFrom}
 use Rattle.commands.specs.Commands.{operandsOf}
 use Rattle.writer.specs.Pieces.{piecesOf, Whole, givenOperands}
-use Rattle.readback.specs.ReadBack.{wordsFrom, shortened}
+use Rattle.readback.specs.ReadBack.{shortened}
 use Rattle.readback.proofs.Shortened.{piecesLeft, all-left, none-left, whole-left, operands-left, length-left}
 use Rattle.readback.proofs.Shortened.{no-shortened, given-fewer}
 use Rattle.readback.proofs.copies.count_short.Statement.{statement}

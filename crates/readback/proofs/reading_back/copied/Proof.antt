@@ -8,14 +8,14 @@ use lib.ListN.{length, take, drop}
 use borrow.Author.Needs.{needs}
 use Rattle.fixed.specs.Integers.{signed}
 use Rattle.words.specs.declared.answer.Answer.the-variants.{Ok}
-use Rattle.words.specs.Words.{rawAt}
+use Rattle.words.specs.Words.{rawAt, wordsFrom}
 use Rattle.words.specs.Answers.{firstOf}
 use Rattle.commands.specs.Commands.{operandsOf}
 use Rattle.writer.specs.Pieces.{Piece, piecesOf}
 use Rattle.writer.specs.Refusals.{over}
 use Rattle.script.specs.Script.{checkRows}
 use Rattle.script.proofs.Passed.{Passed, passed}
-use Rattle.readback.specs.ReadBack.{wordsFrom, scriptPieces, shortened, givenIn, WholeCommands}
+use Rattle.readback.specs.ReadBack.{scriptPieces, shortened, givenIn, WholeCommands}
 use Rattle.readback.proofs.Accepted.{whole-commands}
 use Rattle.readback.proofs.ReadRooms.{pieces-are, commands-length, masks-length, accepted, words-fit, bytes-fit}
 use Rattle.readback.proofs.ReadRooms.{said-is}
