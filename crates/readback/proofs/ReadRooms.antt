@@ -3,11 +3,11 @@
 use mathlib.Core.Path.{_≡_, refl, sym, _∙_}
 use mathlib.Core.Bool.{false}
 use mathlib.Core.List.{List, [], _∷_}
-use Prim.Native.Nat.{ℕ, _*_, _≤_, _<_}
+use Prim.Native.Nat.{ℕ, _+_, _-_, _*_, _≤_, _<_}
 use native.Mathlib.Omega.{arith}
 use lib.Dec.{ltb}
 use lib.IntN.{ℤ}
-use lib.ListN.{length, drop, length-drop, length-map}
+use lib.ListN.{length, take, drop, length-drop, length-map}
 use lib.Seq.{length-take-le}
 use borrow.Author.Tests.{lt-ltb, le-ltb, ltb-false}
 use Rattle.fixed.specs.declared.Fixed.{Fixed}
@@ -16,7 +16,7 @@ use Rattle.zones.specs.declared.state.HintParams.{HintParams}
 use Rattle.words.specs.declared.answer.Answer.{Answer}
 use Rattle.words.specs.declared.answer.Answer.the-variants.{Ok, NoRoom}
 use Rattle.words.specs.Words.{rawAt, wordsFrom}
-use Rattle.words.specs.Rows.{Row, row, firstOr}
+use Rattle.words.specs.Rows.{Row, row, firstOr, rowAt}
 use Rattle.words.specs.Answers.{firstOf, numberOf}
 use Rattle.words.proofs.Rows.{none-holds, found, onward}
 use Rattle.words.proofs.Answers.{both-ok}
@@ -48,6 +48,14 @@ module _ (s : List ℕ) where
   masks-length e =
       length-take-le (rawAt s 7) (drop (4 * rawAt s 6) s)
       (omega (arith, length-drop (4 * rawAt s 6) s, passed s e .fine .bytes))
+
+  -- which are the part that starts there
+  pub masks-part : {at n : ℕ} → at ≡ rawAt s 6 → n ≡ rawAt s 7 →
+      take (4 * at + n - 4 * at) (drop (4 * at) s) ≡ givenIn s .masks
+  unfolding givenIn
+  masks-part {at} {n} f g =
+      let e : 4 * at + n - 4 * at ≡ rawAt s 7 = omega arith in
+      rw (e, f)
 
   module _ (words bytes : ℕ) where
     -- ---- the tests of room
@@ -104,17 +112,17 @@ module _ (s : List ℕ) where
       pub accepted : firstOf (checkRows s) ≡ Ok
       accepted = both .0
 
+      -- no test of room holds
+      passes : (k : ℕ) → rowAt Ok roomRows k .fault ≡ false
+      passes = none-holds Ok roomRows (refusing roomRows refl) (both .1)
+
       -- its words have room
       pub words-fit : length (shortened (scriptPieces s)) ≤ words
-      words-fit =
-          let f = none-holds Ok roomRows (refusing roomRows refl) (both .1) 0 in
-          omega (arith, ltb-false words (length (givenIn s .commands)) f, commands-length)
+      words-fit = omega (arith, ltb-false words (length (givenIn s .commands)) (passes 0), commands-length)
 
       -- and so have its mask bytes
-      pub bytes-fit : rawAt s 7 ≤ bytes
-      bytes-fit =
-          let f = none-holds Ok roomRows (refusing roomRows refl) (both .1) 1 in
-          omega (arith, ltb-false bytes (length (givenIn s .masks)) f, masks-length accepted)
+      pub bytes-fit : length (givenIn s .masks) ≤ bytes
+      bytes-fit = ltb-false bytes (length (givenIn s .masks)) (passes 1)
 
 -- ---- a whole answer
 -- what is said of a script that is read

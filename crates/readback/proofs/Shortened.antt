@@ -1,25 +1,29 @@
 -- Laws of the pieces of a script from a word on, and of their words without the starts of masks.
 -- Assumes nothing.
-use mathlib.Core.Path.{_≡_, refl, ap, _∙_}
+use mathlib.Core.Path.{_≡_, refl, sym, ap, _∙_}
 use mathlib.Core.Bool.{Bool, true, false, cond}
-use mathlib.Core.List.{List, [], _∷_, _++_}
+use mathlib.Core.List.{List, [], _∷_, _++_, map, map-append}
 use Prim.Native.Nat.{ℕ, _+_, _-_, _≤_, _<_}
 use native.Mathlib.Omega.{arith}
-use lib.ListN.{length, take, drop, length-append, length-take}
+use lib.IntN.{ℤ}
+use lib.ListN.{length, take, drop, length-append, length-take, length-map}
+use Rattle.fixed.specs.Integers.{signed}
 use Rattle.words.specs.Words.{wordsFrom}
+use Rattle.words.specs.Bytes.{placed}
 use Rattle.words.proofs.Words.{from-length, words-first, words-taken, words-left}
+use Rattle.words.proofs.Placing.{placed-behind}
 use Rattle.commands.specs.Commands.{operandsOf}
 use Rattle.writer.specs.Pieces.{Piece, piecesOf, pieceWords, joined, Whole, isMask, givenOperands, unstarted}
 use Rattle.writer.proofs.Cutting.{no-pieces, first-piece, mask-two}
-use Rattle.readback.specs.ReadBack.{shortened, scriptPiece}
+use Rattle.readback.specs.ReadBack.{piecesFrom, shortened, scriptPiece}
 
 -- ---- the pieces of n words from a first one on, without those of the words before word `at`
 abbrev pub piecesLeft : (ℕ → ℕ) → ℕ → ℕ → ℕ → List Piece
-piecesLeft w first n at = piecesOf operandsOf (wordsFrom w (first + at) (n - at))
+piecesLeft w first n at = piecesFrom w (first + at) (n - at)
 
 module _ (w : ℕ → ℕ) (first n : ℕ) where
   -- all of them
-  pub all-left : piecesLeft w first n 0 ≡ piecesOf operandsOf (wordsFrom w first n)
+  pub all-left : piecesLeft w first n 0 ≡ piecesFrom w first n
   all-left =
       let e : first + 0 ≡ first = omega arith in
       let f : n - 0 ≡ n = omega arith in
@@ -122,22 +126,75 @@ first-shortened : (p : Piece) (ps : List Piece) → shortened (p ∷ ps) ≡ pie
 unfolding shortened joined
 first-shortened p ps = refl
 
-module _ (w : ℕ → ℕ) (first n at : ℕ) (h : at < n) (g : Whole operandsOf (piecesLeft w first n at)) where
-  -- those of the first piece, then those of the rest
-  pub shortened-left :
-      shortened (piecesLeft w first n at) ≡
-      pieceWords (unstarted (scriptPiece w (first + at))) ++
-      shortened (piecesLeft w first n (at + 1 + operandsOf (w (first + at))))
-  shortened-left =
-      ap shortened (first-left w first n at (operands-left w first n at h g)) ∙
-      first-shortened (scriptPiece w (first + at)) (piecesLeft w first n (at + 1 + operandsOf (w (first + at))))
+-- ---- a walk along the pieces of n words from a first one on, with some of their shortened words done
+pub record Walk (w : ℕ → ℕ) (first n done at : ℕ) : Type 0 where
+  pub whole : Whole operandsOf (piecesLeft w first n at)
+  pub inside : at ≤ n
+  pub fewer : done ≤ at
+  pub counted : done + length (shortened (piecesLeft w first n at)) ≡ length (shortened (piecesFrom w first n))
 
-  -- and how many they are
-  pub length-left :
-      length (shortened (piecesLeft w first n at)) ≡
-      1 + givenOperands (w (first + at)) +
-      length (shortened (piecesLeft w first n (at + 1 + operandsOf (w (first + at)))))
-  length-left =
-      let p = pieceWords (unstarted (scriptPiece w (first + at))) in
-      let r = shortened (piecesLeft w first n (at + 1 + operandsOf (w (first + at)))) in
-      ap length shortened-left ∙ omega (arith, length-append p r, unstarted-length w (first + at))
+module _ (w : ℕ → ℕ) (first n : ℕ) where
+  -- it starts with none
+  pub walk-start : Whole operandsOf (piecesFrom w first n) → Walk w first n 0 0
+  walk-start h =
+      let e = all-left w first n in
+      record { whole = rw e h; inside = omega arith; fewer = omega arith; counted = rw e (omega arith) }
+
+  module _ {done at : ℕ} (a : Walk w first n done at) where
+    -- behind the last piece all are done
+    pub nothing-left : n ≤ at → shortened (piecesLeft w first n at) ≡ []
+    nothing-left h = ap shortened (none-left w first n at h) ∙ no-shortened
+
+    pub walk-end : n ≤ at → done ≡ length (shortened (piecesFrom w first n))
+    walk-end h = omega (arith, a .counted, ap length (nothing-left h))
+
+    module _ (h : at < n) where
+      abbrev kind : ℕ
+      kind = w (first + at)
+
+      abbrev here : List ℕ
+      here = pieceWords (unstarted (scriptPiece w (first + at)))
+
+      abbrev rest : List ℕ
+      rest = shortened (piecesLeft w first n (at + 1 + operandsOf kind))
+
+      -- a piece has its operands
+      pub walk-there : at + 1 + operandsOf kind ≤ n
+      walk-there = operands-left w first n at h (a .whole)
+
+      -- its words, then those of the rest
+      split : shortened (piecesLeft w first n at) ≡ here ++ rest
+      split =
+          ap shortened (first-left w first n at walk-there) ∙
+          first-shortened (scriptPiece w (first + at)) (piecesLeft w first n (at + 1 + operandsOf kind))
+
+      -- and how many they are
+      pub walk-room : done + (1 + givenOperands kind + length rest) ≡ length (shortened (piecesFrom w first n))
+      walk-room =
+          omega (arith, a .counted, ap length split, length-append here rest, unstarted-length w (first + at))
+
+      -- behind it the walk goes on
+      pub walk-next : {k given many : ℕ} → k ≡ kind → given ≡ givenOperands k → many ≡ operandsOf k →
+          Walk w first n (done + 1 + given) (at + 1 + many)
+      walk-next e f g =
+          rw (f, g, e)
+          (record {
+            whole = whole-left w first n at h (a .whole);
+            inside = walk-there;
+            fewer = omega (arith, a .fewer, given-fewer kind);
+            counted = omega (arith, walk-room);
+          })
+
+      -- its words placed, and behind them those of the rest
+      pub walk-placed : {k given many : ℕ} → k ≡ kind → given ≡ givenOperands k → many ≡ operandsOf k →
+          (lent : List ℤ) → length (shortened (piecesFrom w first n)) ≤ length lent →
+          placed (placed lent done (map signed here)) (done + 1 + given)
+          (map signed (shortened (piecesLeft w first n (at + 1 + many)))) ≡
+          placed lent done (map signed (shortened (piecesLeft w first n at)))
+      walk-placed e f g lent r =
+          let m = length-map here signed in
+          let l = unstarted-length w (first + at) in
+          rw (f, g, e)
+          (placed-behind lent done (map signed here) (omega (arith, walk-room)) (map signed rest)
+          (done + 1 + givenOperands kind) (omega arith) ∙
+          ap (placed lent done) (sym (map-append signed here rest) ∙ ap (map signed) (sym split)))

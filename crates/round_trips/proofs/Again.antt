@@ -11,6 +11,7 @@ use Rattle.words.specs.declared.answer.Answer.the-variants.{Ok}
 use Rattle.words.specs.Words.{rawAt, wordsFrom}
 use Rattle.words.specs.Rows.{Row, firstOr}
 use Rattle.words.specs.Answers.{firstOf}
+use Rattle.words.specs.Bytes.{over}
 use Rattle.words.proofs.Rows.{none-holds}
 use Rattle.words.proofs.Words.{from-length}
 use Rattle.header.specs.Header.{padded}
@@ -23,7 +24,7 @@ use Rattle.writer.specs.declared.write_answer.WriteAnswer.{WriteAnswer}
 use Rattle.writer.specs.declared.write_answer.WriteAnswer.the-variants.{Written}
 use Rattle.writer.specs.Pieces.{Piece, piecesOf, joined, startsFrom, givenOperands, unstarted}
 use Rattle.writer.specs.ToWrite.{Given, piecesIn, commandWords, scriptFor}
-use Rattle.writer.specs.Refusals.{WriteResult, writeNumber, givenRows, pieceRows, roomRow, writeRows, writeAnswer, over}
+use Rattle.writer.specs.Refusals.{WriteResult, writeNumber, givenRows, pieceRows, roomRow, writeRows, writeAnswer}
 use Rattle.writer.specs.Refusals.{writeOf}
 use Rattle.writer.proofs.Cutting.{joined-pieces, pieces-joined}
 use Rattle.writer.proofs.PieceFaults.{NoneHold, none-both, none-onward, none-answer}
