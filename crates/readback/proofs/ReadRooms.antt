@@ -15,14 +15,12 @@ use Rattle.fixed.specs.Integers.{signed}
 use Rattle.zones.specs.declared.state.HintParams.{HintParams}
 use Rattle.words.specs.declared.answer.Answer.{Answer}
 use Rattle.words.specs.declared.answer.Answer.the-variants.{Ok, NoRoom}
-use Rattle.words.specs.Words.{rawAt, wordsFrom}
+use Rattle.words.specs.Words.{rawAt}
 use Rattle.words.specs.Rows.{Row, row, firstOr, rowAt}
 use Rattle.words.specs.Answers.{firstOf, numberOf}
 use Rattle.words.proofs.Rows.{none-holds, found, onward}
 use Rattle.words.proofs.Answers.{both-ok}
 use Rattle.header.proofs.Tests.{refusing}
-use Rattle.commands.specs.Commands.{operandsOf}
-use Rattle.writer.specs.Pieces.{piecesOf}
 use Rattle.writer.specs.ToWrite.{Given}
 use Rattle.script.specs.Script.{checkRows}
 use Rattle.script.proofs.Passed.{checks-refusing, passed}
@@ -32,11 +30,6 @@ use Rattle.readback.specs.ReadBack.{refusedBack, readBy, readBackOf, Rea
 
 module _ (s : List ℕ) where
   -- ---- how much is given
-  -- the pieces, where the script's words say that they are
-  pub pieces-are : {first n : ℕ} → first ≡ rawAt s 4 → n ≡ rawAt s 5 →
-      piecesOf operandsOf (wordsFrom (rawAt s) first n) ≡ scriptPieces s
-  pieces-are f g = rw (f, g)
-
   -- as many words as those of the shortened pieces
   pub commands-length : length (givenIn s .commands) ≡ length (shortened (scriptPieces s))
   unfolding givenIn

@@ -1,5 +1,5 @@
--- Laws of the pieces of a script from a word on, and of their words without the starts of masks.
--- Assumes nothing.
+-- Laws of the pieces of a script from a word on, of their words without the starts of masks, and of
+-- a walk along them. Assumes nothing.
 use mathlib.Core.Path.{_≡_, refl, sym, ap, _∙_}
 use mathlib.Core.Bool.{Bool, true, false, cond}
 use mathlib.Core.List.{List, [], _∷_, _++_, map, map-append}
@@ -14,7 +14,7 @@ use Rattle.words.proofs.Words.{from-length, words-first, words-taken, words-lef
 use Rattle.words.proofs.Placing.{placed-behind}
 use Rattle.commands.specs.Commands.{operandsOf}
 use Rattle.writer.specs.Pieces.{Piece, piecesOf, pieceWords, joined, Whole, isMask, givenOperands, unstarted}
-use Rattle.writer.proofs.Cutting.{no-pieces, first-piece, mask-two}
+use Rattle.writer.proofs.Cutting.{no-pieces, first-piece, mask-two, given-fewer}
 use Rattle.readback.specs.ReadBack.{piecesFrom, shortened, scriptPiece}
 
 -- ---- the pieces of n words from a first one on, without those of the words before word `at`
@@ -66,7 +66,7 @@ module _ (w : ℕ → ℕ) (first n : ℕ) where
         )
 
     -- and they are there where no piece is cut off
-    pub operands-left : at < n → Whole operandsOf (piecesLeft w first n at) → at + 1 + operandsOf (w (first + at)) ≤ n
+    operands-left : at < n → Whole operandsOf (piecesLeft w first n at) → at + 1 + operandsOf (w (first + at)) ≤ n
     operands-left h g =
         let k = operandsOf (w (first + at)) in
         let ws = wordsFrom w (first + at + 1) (n - at - 1) in
@@ -74,21 +74,12 @@ module _ (w : ℕ → ℕ) (first n : ℕ) where
         omega (arith, f .0, length-take k ws, from-length w (first + at + 1) (n - at - 1))
 
     -- nor is one of those behind the first
-    pub whole-left : at < n → Whole operandsOf (piecesLeft w first n at) →
+    whole-left : at < n → Whole operandsOf (piecesLeft w first n at) →
         Whole operandsOf (piecesLeft w first n (at + 1 + operandsOf (w (first + at))))
     whole-left h g = (rw (first-left (operands-left h g)) at g) .1
 
 -- ---- a piece without its start
--- a mask is given with fewer operands than it has
-pub given-fewer : (k : ℕ) → givenOperands k ≤ operandsOf k
-unfolding givenOperands
-given-fewer k = by (isMask k) refl
-  where
-    by : (b : Bool) → isMask k ≡ b → cond b 1 (operandsOf k) ≤ operandsOf k
-    by true e = omega (arith, mask-two k e)
-    by false e = omega arith
-
--- a piece without its start is its kind and the last of its operands
+-- it is its kind and the last of its operands
 pub unstarted-words : (w : ℕ → ℕ) (i : ℕ) →
     pieceWords (unstarted (scriptPiece w i)) ≡
     w i ∷ wordsFrom w (i + 1 + operandsOf (w i) - givenOperands (w i)) (givenOperands (w i))
@@ -110,16 +101,19 @@ unstarted-words w i = ap (λ (l : List ℕ). w i ∷ l) (by (isMask (w i)) refl)
         ap (λ (k : ℕ). wordsFrom w k (operandsOf (w i))) f
 
 -- which are as many words as it is given with
-pub unstarted-length : (w : ℕ → ℕ) (i : ℕ) →
+unstarted-length : (w : ℕ → ℕ) (i : ℕ) →
     length (pieceWords (unstarted (scriptPiece w i))) ≡ 1 + givenOperands (w i)
 unstarted-length w i =
     let k = givenOperands (w i) in
     ap length (unstarted-words w i) ∙ omega (arith, from-length w (i + 1 + operandsOf (w i) - k) k)
 
 -- ---- the words of pieces without their starts: of none
-pub no-shortened : shortened [] ≡ []
+no-shortened : shortened [] ≡ []
 unfolding shortened joined
 no-shortened = refl
+
+pub nothing-left : (w : ℕ → ℕ) (first n at : ℕ) → n ≤ at → shortened (piecesLeft w first n at) ≡ []
+nothing-left w first n at h = ap shortened (none-left w first n at h) ∙ no-shortened
 
 -- and of one and the others
 first-shortened : (p : Piece) (ps : List Piece) → shortened (p ∷ ps) ≡ pieceWords (unstarted p) ++ shortened ps
@@ -142,11 +136,8 @@ module _ (w : ℕ → ℕ) (first n : ℕ) where
 
   module _ {done at : ℕ} (a : Walk w first n done at) where
     -- behind the last piece all are done
-    pub nothing-left : n ≤ at → shortened (piecesLeft w first n at) ≡ []
-    nothing-left h = ap shortened (none-left w first n at h) ∙ no-shortened
-
     pub walk-end : n ≤ at → done ≡ length (shortened (piecesFrom w first n))
-    walk-end h = omega (arith, a .counted, ap length (nothing-left h))
+    walk-end h = omega (arith, a .counted, ap length (nothing-left w first n at h))
 
     module _ (h : at < n) where
       abbrev kind : ℕ

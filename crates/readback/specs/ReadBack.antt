@@ -12,7 +12,7 @@ use Rattle.zones.specs.declared.blues.Blues.{Blues}
 use Rattle.zones.specs.declared.state.HintParams.{HintParams}
 use Rattle.zones.specs.Zones.{maxBlues, noBlue}
 use Rattle.words.specs.declared.answer.Answer.{Answer}
-use Rattle.words.specs.declared.answer.Answer.the-variants.{Ok, NoRoom}
+use Rattle.words.specs.declared.answer.Answer.the-variants.{NoRoom}
 use Rattle.words.specs.Words.{rawAt, numberAt, wordsFrom}
 use Rattle.words.specs.Rows.{Row, row}
 use Rattle.words.specs.Answers.{firstOf, refuses}

@@ -2,9 +2,8 @@
 -- whole, and placed behind the others give all of them written. Assumes nothing.
 use mathlib.Core.Path.{_≡_, refl, sym, ap, _∙_}
 use mathlib.Core.List.{List, map}
-use Prim.Native.Nat.{ℕ, _+_, _-_}
+use Prim.Native.Nat.{ℕ, _-_}
 use native.Mathlib.Omega.{arith}
-use lib.IntN.{ℤ}
 use lib.ListN.{length}
 use borrow.Author.Needs.{needs}
 use Rattle.fixed.specs.Integers.{signed}
@@ -104,7 +103,7 @@ returns c =
     let l = c .before in
     let a = l .before .before .args in
     let w = rawAt (a .script .now) in
-    let e = nothing-left w (a .first) (a .n) (l .loop .inv .0) (omega arith) in (
+    let e = nothing-left w (a .first) (a .n) (l .loop .at) (omega arith) in (
       walk-end w (a .first) (a .n) (l .loop .inv .0) (omega arith),
       sym (placed-none (l .loop .commands) (l .loop .to)) ∙
           ap (λ (k : List ℕ). placed (l .loop .commands) (l .loop .to) (map signed k)) (sym e) ∙

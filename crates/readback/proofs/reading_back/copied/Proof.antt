@@ -1,14 +1,12 @@
 -- `copied` reads a script with room: its words, its mask bytes, and what it says beside them, by the
 -- contracts of its calls. Assumes nothing.
-use mathlib.Core.Path.{_≡_, sym, ap, _∙_}
+use mathlib.Core.Path.{_≡_, sym, _∙_}
 use mathlib.Core.List.{List}
-use Prim.Native.Nat.{ℕ, _+_, _-_, _*_, _≤_}
+use Prim.Native.Nat.{ℕ}
 use native.Mathlib.Omega.{arith}
-use lib.ListN.{length, take, drop}
+use lib.ListN.{length}
 use borrow.Author.Needs.{needs}
 use Rattle.words.specs.declared.answer.Answer.the-variants.{Ok}
-use Rattle.words.specs.Words.{rawAt}
-use Rattle.words.specs.Bytes.{over}
 use Rattle.words.specs.Answers.{firstOf}
 use Rattle.script.specs.Script.{checkRows}
 use Rattle.script.proofs.Passed.{Passed, passed}
@@ -30,7 +28,7 @@ module _ (c : tie.Start) where
   fine : Passed script
   fine = passed script ok
 
--- where its header has been read
+-- the start, from where the header has been read
 abbrev begin : tie.After-natural4 → tie.Start
 begin c = c .before .before .before .before .before .before
 

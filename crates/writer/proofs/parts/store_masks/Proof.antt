@@ -1,7 +1,7 @@
 -- `store_masks` copies the bytes and clears the rest. The loop's invariant: the zeros that are left,
 -- placed behind what is stored, give the bytes with all their zeros. Assumes nothing.
 use mathlib.Core.Path.{_≡_, refl, sym, ap, _∙_}
-use mathlib.Core.List.{List, _∷_, _++_, append-nil}
+use mathlib.Core.List.{List, _++_, append-nil}
 use Prim.Native.Nat.{ℕ, suc, _+_, _-_, _*_, _≤_}
 use native.Mathlib.Omega.{arith}
 use lib.ListN.{length, drop, replicate, length-append, length-replicate, length-set}
