@@ -42,7 +42,7 @@ module _ (s : List ℕ) where
       length-take-le (rawAt s 7) (drop (4 * rawAt s 6) s)
       (omega (arith, length-drop (4 * rawAt s 6) s, passed s e .fine .bytes))
 
-  -- which are the part that starts there
+  -- which are the part that starts where word 6 says
   pub masks-part : {at n : ℕ} → at ≡ rawAt s 6 → n ≡ rawAt s 7 →
       take (4 * at + n - 4 * at) (drop (4 * at) s) ≡ givenIn s .masks
   unfolding givenIn
