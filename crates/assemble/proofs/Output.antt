@@ -8,11 +8,11 @@ use native.Mathlib.Omega.{arith}
 use lib.ListN.{length, take, drop, length-append, length-drop, take-append-drop}
 use lib.Seq.{length-take-le, drop-append-le, drop-at, drop-drop}
 use borrow.Rule.Slice.PartMut.{putMid}
-use Rattle.words.specs.Bytes.{bytesOf, laid}
+use Rattle.words.specs.Bytes.{bytesOf, laid, over}
 use Rattle.words.proofs.Laid.{bytes-length, laid-behind, low-laid}
 use Rattle.writer.specs.declared.write_answer.WriteAnswer.{WriteAnswer}
 use Rattle.writer.specs.ToWrite.{scriptFor}
-use Rattle.writer.specs.Refusals.{writeNumber, writePlace, writtenBytes, writeRefuses, over, bufferBy, Wrote}
+use Rattle.writer.specs.Refusals.{writeNumber, writePlace, writtenBytes, writeRefuses, bufferBy, Wrote}
 use Rattle.assemble.specs.Asked.{askedIn, answerTo, answerIn, programBytes, AtStart}
 use Rattle.assemble.proofs.AskedAnswers.{counted}
 

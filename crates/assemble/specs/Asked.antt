@@ -7,13 +7,13 @@ use Prim.Native.Nat.{ℕ, zero, suc, _+_, _*_}
 use lib.Dec.{ltb}
 use lib.IntN.{ℤ}
 use lib.ListN.{length, take, drop}
-use Rattle.words.specs.Bytes.{bytesOf}
+use Rattle.words.specs.Bytes.{bytesOf, over}
 use Rattle.words.specs.Words.{rawAt, wordAt, numberAt}
 use Rattle.writer.specs.declared.write_answer.WriteAnswer.{WriteAnswer}
 use Rattle.writer.specs.declared.write_answer.WriteAnswer.the-variants.{ScriptRoom}
 use Rattle.writer.specs.ToWrite.{Given, given, scriptFor}
 use Rattle.writer.specs.ParamWords.{paramsIn}
-use Rattle.writer.specs.Refusals.{writeNumber, writePlace, writeRefuses, writeAnswer, WriteResult, over, bufferBy}
+use Rattle.writer.specs.Refusals.{writeNumber, writePlace, writeRefuses, writeAnswer, WriteResult, bufferBy}
 
 -- ---- the input
 -- n words from word i on

@@ -1,13 +1,13 @@
 -- Laws of the commands and of their faults. Assumes nothing.
 use mathlib.Core.Path.{_≡_, refl, sym, ap, _∙_}
-use mathlib.Core.Bool.{Bool, true, false, cond, _||_}
+use mathlib.Core.Bool.{Bool, true, false, cond, _||_, true≢false}
 use mathlib.Core.List.{List, [], _∷_, _++_}
 use Prim.Native.Nat.{ℕ, zero, suc, _+_, _-_, _≤_, _<_}
 use native.Mathlib.Omega.{arith}
 use lib.ListN.{length, take, drop, length-drop}
 use lib.Seq.{take-all}
 use lib.Dec.{ltb, leb}
-use borrow.Author.Tests.{lt-ltb, le-ltb, ltb-false}
+use borrow.Author.Tests.{lt-ltb, le-ltb, ltb-true, ltb-false}
 use Rattle.words.specs.declared.answer.Answer.{Answer}
 use Rattle.words.specs.declared.answer.Answer.the-variants.{Ok}
 use Rattle.words.specs.Rows.{Row}
@@ -15,7 +15,9 @@ use Rattle.words.specs.Answers.{firstOf, numberOf}
 use Rattle.words.proofs.Rows.{Refusing, none-holds, found, onward}
 use Rattle.words.proofs.Answers.{refusal, is-ok, both-ok}
 use Rattle.commands.specs.declared.reading.Command.{Command}
-use Rattle.commands.specs.Commands.{nextAt, readAt, CommandAt, commandsFrom, commandsOf}
+use Rattle.commands.specs.declared.reading.Command.the-variants.{Mark}
+use Rattle.commands.specs.declared.reading.Marking.the-variants.{Bad}
+use Rattle.commands.specs.Commands.{nextAt, commandOf, readAt, CommandAt, commandsFrom, commandsOf}
 use Rattle.commands.specs.Faults.{maskPast, isBad, hasBadMask, faultRows, commandRows}
 
 -- a mask that is not past its bytes ends among them
@@ -142,6 +144,36 @@ module _ (b : ℕ) (w : ℕ → ℕ) (n bytes i : ℕ) (h : i < n) where
   fault-behind f g k =
       ap firstOf (rows-first b w n bytes i h) ∙
       onward Ok _ _ (faults-refusing bytes (b + i) (readAt w n i .command)) (sym g ∙ is-ok f k)
+
+-- a command that is not bad has all its operands, and is not made bad
+pub read-fine : (w : ℕ → ℕ) (n i : ℕ) → isBad (readAt w n i .command) ≡ false →
+    (nextAt w i ≤ n) × (readAt w n i .command ≡ commandOf w i (w i))
+unfolding readAt
+read-fine w n i e = by (ltb n (nextAt w i)) refl e
+  where
+    by : (b : Bool) → ltb n (nextAt w i) ≡ b → isBad (cond b (Mark Bad) (commandOf w i (w i))) ≡ false →
+        (nextAt w i ≤ n) × (cond b (Mark Bad) (commandOf w i (w i)) ≡ commandOf w i (w i))
+    by true f e = absurd (true≢false e)
+    by false f e = (ltb-false n (nextAt w i) f, refl)
+
+-- what holds behind the last of n words, and at a command that is not bad if behind it, holds at
+-- commands without a fault
+module _ (b : ℕ) (w : ℕ → ℕ) (n bytes : ℕ) (P : ℕ → Type 0) (last : (i : ℕ) → n ≤ i → P i)
+    (one : (i : ℕ) → i < n → isBad (readAt w n i .command) ≡ false → P (nextAt w i) → P i) where
+  abbrev Faultless : ℕ → Type 0
+  Faultless i = firstOf (commandRows bytes (commandsFrom (n - i) b w n i)) ≡ Ok
+
+  -- by at most f of them
+  pub along : (f i : ℕ) → n - i ≤ f → Faultless i → P i
+  along zero i h e = last i (omega arith)
+  along (suc f) i h e = by (ltb i n) refl (λ l g. along f (nextAt w i) l g)
+    where
+      by : (t : Bool) → ltb i n ≡ t → (n - nextAt w i ≤ f → Faultless (nextAt w i) → P (nextAt w i)) → P i
+      by true t again =
+          let l = ltb-true i n t in
+          let p = faultless b w n bytes i l e in
+          one i l (p .0) (again (omega arith) (p .1 .1))
+      by false t again = last i (ltb-false i n t)
 
 -- the part of a slice that is lent from i on is the rest of it
 pub lent : {A : Type 0} (s : List A) (i : ℕ) → take (length s - i) (drop i s) ≡ drop i s

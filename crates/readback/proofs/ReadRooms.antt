@@ -2,12 +2,12 @@
 -- nothing.
 use mathlib.Core.Path.{_≡_, refl, sym, _∙_}
 use mathlib.Core.Bool.{false}
-use mathlib.Core.List.{List, [], _∷_, _++_}
-use Prim.Native.Nat.{ℕ, zero, suc, _*_, _≤_, _<_}
+use mathlib.Core.List.{List, [], _∷_}
+use Prim.Native.Nat.{ℕ, _+_, _-_, _*_, _≤_, _<_}
 use native.Mathlib.Omega.{arith}
 use lib.Dec.{ltb}
 use lib.IntN.{ℤ}
-use lib.ListN.{length, drop, length-drop, length-map}
+use lib.ListN.{length, take, drop, length-drop, length-map}
 use lib.Seq.{length-take-le}
 use borrow.Author.Tests.{lt-ltb, le-ltb, ltb-false}
 use Rattle.fixed.specs.declared.Fixed.{Fixed}
@@ -16,46 +16,20 @@ use Rattle.zones.specs.declared.state.HintParams.{HintParams}
 use Rattle.words.specs.declared.answer.Answer.{Answer}
 use Rattle.words.specs.declared.answer.Answer.the-variants.{Ok, NoRoom}
 use Rattle.words.specs.Words.{rawAt}
-use Rattle.words.specs.Rows.{Row, row, firstOr}
+use Rattle.words.specs.Rows.{Row, row, firstOr, rowAt}
 use Rattle.words.specs.Answers.{firstOf, numberOf}
-use Rattle.words.proofs.Rows.{Refusing, none-holds, found, onward}
+use Rattle.words.proofs.Rows.{none-holds, found, onward}
 use Rattle.words.proofs.Answers.{both-ok}
-use Rattle.header.specs.Header.{headerRows}
-use Rattle.header.specs.Params.{paramRows}
 use Rattle.header.proofs.Tests.{refusing}
-use Rattle.header.proofs.Fine.{header-refusing, params-refusing}
-use Rattle.commands.specs.Commands.{operandsOf}
-use Rattle.commands.specs.Faults.{commandRows}
-use Rattle.commands.proofs.Laws.{rows-refusing}
-use Rattle.writer.specs.Pieces.{piecesOf}
 use Rattle.writer.specs.ToWrite.{Given}
-use Rattle.script.specs.Script.{commandsIn, checkRows}
-use Rattle.script.proofs.Passed.{passed}
+use Rattle.script.specs.Script.{checkRows}
+use Rattle.script.proofs.Passed.{checks-refusing, passed}
 use Rattle.script.proofs.Results.{refused}
-use Rattle.readback.specs.ReadBack.{wordsFrom, scriptPieces, shortened, givenIn, readRows}
+use Rattle.readback.specs.ReadBack.{scriptPieces, shortened, givenIn, readRows}
 use Rattle.readback.specs.ReadBack.{refusedBack, readBy, readBackOf, ReadAs}
-
--- ---- tests in two lists refuse if those of each do
-both-refusing : (rs qs : List (Row Answer)) → Refusing Ok rs → Refusing Ok qs → Refusing Ok (rs ++ qs)
-both-refusing [] qs h g j l = g j l
-both-refusing (r ∷ rs) qs h g zero l = h 0 (omega arith)
-both-refusing (r ∷ rs) qs h g (suc j) l = both-refusing rs qs (λ i m. h (suc i) (omega arith)) g j (omega arith)
-
--- every test of a script refuses
-checks-refusing : (s : List ℕ) → Refusing Ok (checkRows s)
-unfolding checkRows
-checks-refusing s =
-    let cs = commandRows (rawAt s 7) (commandsIn s) in
-    both-refusing (headerRows s) (paramRows (rawAt s) ++ cs) (header-refusing s)
-    (both-refusing (paramRows (rawAt s)) cs (params-refusing s) (rows-refusing (rawAt s 7) (commandsIn s)))
 
 module _ (s : List ℕ) where
   -- ---- how much is given
-  -- the pieces, where the script's words say that they are
-  pub pieces-are : {first n : ℕ} → first ≡ rawAt s 4 → n ≡ rawAt s 5 →
-      piecesOf operandsOf (wordsFrom (rawAt s) first n) ≡ scriptPieces s
-  pieces-are f g = rw (f, g)
-
   -- as many words as those of the shortened pieces
   pub commands-length : length (givenIn s .commands) ≡ length (shortened (scriptPieces s))
   unfolding givenIn
@@ -67,6 +41,14 @@ module _ (s : List ℕ) where
   masks-length e =
       length-take-le (rawAt s 7) (drop (4 * rawAt s 6) s)
       (omega (arith, length-drop (4 * rawAt s 6) s, passed s e .fine .bytes))
+
+  -- which are the part that starts where word 6 says
+  pub masks-part : {at n : ℕ} → at ≡ rawAt s 6 → n ≡ rawAt s 7 →
+      take (4 * at + n - 4 * at) (drop (4 * at) s) ≡ givenIn s .masks
+  unfolding givenIn
+  masks-part {at} {n} f g =
+      let e : 4 * at + n - 4 * at ≡ rawAt s 7 = omega arith in
+      rw (e, f)
 
   module _ (words bytes : ℕ) where
     -- ---- the tests of room
@@ -123,17 +105,17 @@ module _ (s : List ℕ) where
       pub accepted : firstOf (checkRows s) ≡ Ok
       accepted = both .0
 
+      -- no test of room holds
+      passes : (k : ℕ) → rowAt Ok roomRows k .fault ≡ false
+      passes = none-holds Ok roomRows (refusing roomRows refl) (both .1)
+
       -- its words have room
       pub words-fit : length (shortened (scriptPieces s)) ≤ words
-      words-fit =
-          let f = none-holds Ok roomRows (refusing roomRows refl) (both .1) 0 in
-          omega (arith, ltb-false words (length (givenIn s .commands)) f, commands-length)
+      words-fit = omega (arith, ltb-false words (length (givenIn s .commands)) (passes 0), commands-length)
 
       -- and so have its mask bytes
-      pub bytes-fit : rawAt s 7 ≤ bytes
-      bytes-fit =
-          let f = none-holds Ok roomRows (refusing roomRows refl) (both .1) 1 in
-          omega (arith, ltb-false bytes (length (givenIn s .masks)) f, masks-length accepted)
+      pub bytes-fit : length (givenIn s .masks) ≤ bytes
+      bytes-fit = ltb-false bytes (length (givenIn s .masks)) (passes 1)
 
 -- ---- a whole answer
 -- what is said of a script that is read

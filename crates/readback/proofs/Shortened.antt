@@ -1,87 +1,29 @@
--- Laws of the pieces of a script from a word on, and of their words without the starts of masks.
--- Assumes nothing.
-use mathlib.Core.Path.{_≡_, refl, ap, _∙_}
+-- Laws of the pieces of a script from a word on, of their words without the starts of masks, and of
+-- a walk along them. Assumes nothing.
+use mathlib.Core.Path.{_≡_, refl, sym, ap, _∙_}
 use mathlib.Core.Bool.{Bool, true, false, cond}
-use mathlib.Core.List.{List, [], _∷_, _++_}
-use Prim.Native.Nat.{ℕ, zero, suc, _+_, _-_, _≤_, _<_}
+use mathlib.Core.List.{List, [], _∷_, _++_, map, map-append}
+use Prim.Native.Nat.{ℕ, _+_, _-_, _≤_, _<_}
 use native.Mathlib.Omega.{arith}
-use lib.ListN.{length, take, drop, length-append, length-take}
-use lib.Seq.{take-at, drop-at}
+use lib.IntN.{ℤ}
+use lib.ListN.{length, take, drop, length-append, length-take, length-map}
+use Rattle.fixed.specs.Integers.{signed}
+use Rattle.words.specs.Words.{wordsFrom}
+use Rattle.words.specs.Bytes.{placed}
+use Rattle.words.proofs.Words.{from-length, words-first, words-taken, words-left}
+use Rattle.words.proofs.Placing.{placed-behind}
 use Rattle.commands.specs.Commands.{operandsOf}
 use Rattle.writer.specs.Pieces.{Piece, piecesOf, pieceWords, joined, Whole, isMask, givenOperands, unstarted}
-use Rattle.writer.proofs.Cutting.{no-pieces, first-piece, mask-two}
-use Rattle.readback.specs.ReadBack.{wordsFrom, shortened, scriptPiece}
-
-module _ (w : ℕ → ℕ) where
-  -- ---- n words from one on are n
-  pub words-length : (i n : ℕ) → length (wordsFrom w i n) ≡ n
-  unfolding wordsFrom
-  words-length i zero = refl
-  words-length i (suc n) = ap suc (words-length (i + 1) n)
-
-  -- the first of them
-  words-first : (i n : ℕ) → 0 < n → wordsFrom w i n ≡ w i ∷ wordsFrom w (i + 1) (n - 1)
-  unfolding wordsFrom
-  words-first i n h =
-      let e : n ≡ suc (n - 1) = omega arith in
-      ap (wordsFrom w i) e
-
-  -- the first of those that are left behind i others
-  pub words-onward : (from i n : ℕ) → i < n →
-      wordsFrom w (from + i) (n - i) ≡ w (from + i) ∷ wordsFrom w (from + (i + 1)) (n - (i + 1))
-  words-onward from i n h =
-      let e : from + i + 1 ≡ from + (i + 1) = omega arith in
-      let f : n - i - 1 ≡ n - (i + 1) = omega arith in
-      words-first (from + i) (n - i) (omega arith) ∙
-      ap (λ (k : ℕ). w (from + i) ∷ wordsFrom w k (n - i - 1)) e ∙
-      ap (λ (k : ℕ). w (from + i) ∷ wordsFrom w (from + (i + 1)) k) f
-
-  -- none
-  pub words-none : (i n : ℕ) → n ≤ 0 → wordsFrom w i n ≡ []
-  unfolding wordsFrom
-  words-none i n h =
-      let e : n ≡ 0 = omega arith in
-      ap (wordsFrom w i) e
-
-  -- some of them, and those behind
-  pub words-split : (i m n : ℕ) → wordsFrom w i (m + n) ≡ wordsFrom w i m ++ wordsFrom w (i + m) n
-  unfolding wordsFrom
-  words-split i zero n =
-      let e : 0 + n ≡ n = omega arith in
-      let f : i ≡ i + 0 = omega arith in
-      ap (wordsFrom w i) e ∙ ap (λ (k : ℕ). wordsFrom w k n) f
-  words-split i (suc m) n =
-      let e : suc m + n ≡ suc (m + n) = omega arith in
-      let f : i + 1 + m ≡ i + suc m = omega arith in
-      ap (wordsFrom w i) e ∙
-      ap (λ (l : List ℕ). w i ∷ l)
-      (words-split (i + 1) m n ∙ ap (λ (k : ℕ). wordsFrom w (i + 1) m ++ wordsFrom w k n) f)
-
-  -- the first m of n, and those behind
-  words-apart : (i m n : ℕ) → m ≤ n → wordsFrom w i n ≡ wordsFrom w i m ++ wordsFrom w (i + m) (n - m)
-  words-apart i m n h =
-      let e : n ≡ m + (n - m) = omega arith in
-      ap (wordsFrom w i) e ∙ words-split i m (n - m)
-
-  -- so the first m
-  words-taken : (i m n : ℕ) → m ≤ n → take m (wordsFrom w i n) ≡ wordsFrom w i m
-  words-taken i m n h =
-      ap (take m) (words-apart i m n h) ∙
-      take-at (wordsFrom w i m) (wordsFrom w (i + m) (n - m)) m (words-length i m)
-
-  -- and those behind them
-  words-left : (i m n : ℕ) → m ≤ n → drop m (wordsFrom w i n) ≡ wordsFrom w (i + m) (n - m)
-  words-left i m n h =
-      ap (drop m) (words-apart i m n h) ∙
-      drop-at (wordsFrom w i m) (wordsFrom w (i + m) (n - m)) m (words-length i m)
+use Rattle.writer.proofs.Cutting.{no-pieces, first-piece, mask-two, given-fewer}
+use Rattle.readback.specs.ReadBack.{piecesFrom, shortened, scriptPiece}
 
 -- ---- the pieces of n words from a first one on, without those of the words before word `at`
 abbrev pub piecesLeft : (ℕ → ℕ) → ℕ → ℕ → ℕ → List Piece
-piecesLeft w first n at = piecesOf operandsOf (wordsFrom w (first + at) (n - at))
+piecesLeft w first n at = piecesFrom w (first + at) (n - at)
 
 module _ (w : ℕ → ℕ) (first n : ℕ) where
   -- all of them
-  pub all-left : piecesLeft w first n 0 ≡ piecesOf operandsOf (wordsFrom w first n)
+  pub all-left : piecesLeft w first n 0 ≡ piecesFrom w first n
   all-left =
       let e : first + 0 ≡ first = omega arith in
       let f : n - 0 ≡ n = omega arith in
@@ -124,29 +66,20 @@ module _ (w : ℕ → ℕ) (first n : ℕ) where
         )
 
     -- and they are there where no piece is cut off
-    pub operands-left : at < n → Whole operandsOf (piecesLeft w first n at) → at + 1 + operandsOf (w (first + at)) ≤ n
+    operands-left : at < n → Whole operandsOf (piecesLeft w first n at) → at + 1 + operandsOf (w (first + at)) ≤ n
     operands-left h g =
         let k = operandsOf (w (first + at)) in
         let ws = wordsFrom w (first + at + 1) (n - at - 1) in
         let f = rw (cut h) at g in
-        omega (arith, f .0, length-take k ws, words-length w (first + at + 1) (n - at - 1))
+        omega (arith, f .0, length-take k ws, from-length w (first + at + 1) (n - at - 1))
 
     -- nor is one of those behind the first
-    pub whole-left : at < n → Whole operandsOf (piecesLeft w first n at) →
+    whole-left : at < n → Whole operandsOf (piecesLeft w first n at) →
         Whole operandsOf (piecesLeft w first n (at + 1 + operandsOf (w (first + at))))
     whole-left h g = (rw (first-left (operands-left h g)) at g) .1
 
 -- ---- a piece without its start
--- a mask is given with fewer operands than it has
-pub given-fewer : (k : ℕ) → givenOperands k ≤ operandsOf k
-unfolding givenOperands
-given-fewer k = by (isMask k) refl
-  where
-    by : (b : Bool) → isMask k ≡ b → cond b 1 (operandsOf k) ≤ operandsOf k
-    by true e = omega (arith, mask-two k e)
-    by false e = omega arith
-
--- a piece without its start is its kind and the last of its operands
+-- it is its kind and the last of its operands
 pub unstarted-words : (w : ℕ → ℕ) (i : ℕ) →
     pieceWords (unstarted (scriptPiece w i)) ≡
     w i ∷ wordsFrom w (i + 1 + operandsOf (w i) - givenOperands (w i)) (givenOperands (w i))
@@ -168,38 +101,91 @@ unstarted-words w i = ap (λ (l : List ℕ). w i ∷ l) (by (isMask (w i)) refl)
         ap (λ (k : ℕ). wordsFrom w k (operandsOf (w i))) f
 
 -- which are as many words as it is given with
-pub unstarted-length : (w : ℕ → ℕ) (i : ℕ) →
+unstarted-length : (w : ℕ → ℕ) (i : ℕ) →
     length (pieceWords (unstarted (scriptPiece w i))) ≡ 1 + givenOperands (w i)
 unstarted-length w i =
     let k = givenOperands (w i) in
-    ap length (unstarted-words w i) ∙ omega (arith, words-length w (i + 1 + operandsOf (w i) - k) k)
+    ap length (unstarted-words w i) ∙ omega (arith, from-length w (i + 1 + operandsOf (w i) - k) k)
 
 -- ---- the words of pieces without their starts: of none
-pub no-shortened : shortened [] ≡ []
+no-shortened : shortened [] ≡ []
 unfolding shortened joined
 no-shortened = refl
+
+pub nothing-left : (w : ℕ → ℕ) (first n at : ℕ) → n ≤ at → shortened (piecesLeft w first n at) ≡ []
+nothing-left w first n at h = ap shortened (none-left w first n at h) ∙ no-shortened
 
 -- and of one and the others
 first-shortened : (p : Piece) (ps : List Piece) → shortened (p ∷ ps) ≡ pieceWords (unstarted p) ++ shortened ps
 unfolding shortened joined
 first-shortened p ps = refl
 
-module _ (w : ℕ → ℕ) (first n at : ℕ) (h : at < n) (g : Whole operandsOf (piecesLeft w first n at)) where
-  -- those of the first piece, then those of the rest
-  pub shortened-left :
-      shortened (piecesLeft w first n at) ≡
-      pieceWords (unstarted (scriptPiece w (first + at))) ++
-      shortened (piecesLeft w first n (at + 1 + operandsOf (w (first + at))))
-  shortened-left =
-      ap shortened (first-left w first n at (operands-left w first n at h g)) ∙
-      first-shortened (scriptPiece w (first + at)) (piecesLeft w first n (at + 1 + operandsOf (w (first + at))))
+-- ---- a walk along the pieces of n words from a first one on, with some of their shortened words done
+pub record Walk (w : ℕ → ℕ) (first n done at : ℕ) : Type 0 where
+  pub whole : Whole operandsOf (piecesLeft w first n at)
+  pub inside : at ≤ n
+  pub fewer : done ≤ at
+  pub counted : done + length (shortened (piecesLeft w first n at)) ≡ length (shortened (piecesFrom w first n))
 
-  -- and how many they are
-  pub length-left :
-      length (shortened (piecesLeft w first n at)) ≡
-      1 + givenOperands (w (first + at)) +
-      length (shortened (piecesLeft w first n (at + 1 + operandsOf (w (first + at)))))
-  length-left =
-      let p = pieceWords (unstarted (scriptPiece w (first + at))) in
-      let r = shortened (piecesLeft w first n (at + 1 + operandsOf (w (first + at)))) in
-      ap length shortened-left ∙ omega (arith, length-append p r, unstarted-length w (first + at))
+module _ (w : ℕ → ℕ) (first n : ℕ) where
+  -- it starts with none
+  pub walk-start : Whole operandsOf (piecesFrom w first n) → Walk w first n 0 0
+  walk-start h =
+      let e = all-left w first n in
+      record { whole = rw e h; inside = omega arith; fewer = omega arith; counted = rw e (omega arith) }
+
+  module _ {done at : ℕ} (a : Walk w first n done at) where
+    -- behind the last piece all are done
+    pub walk-end : n ≤ at → done ≡ length (shortened (piecesFrom w first n))
+    walk-end h = omega (arith, a .counted, ap length (nothing-left w first n at h))
+
+    module _ (h : at < n) where
+      abbrev kind : ℕ
+      kind = w (first + at)
+
+      abbrev here : List ℕ
+      here = pieceWords (unstarted (scriptPiece w (first + at)))
+
+      abbrev rest : List ℕ
+      rest = shortened (piecesLeft w first n (at + 1 + operandsOf kind))
+
+      -- a piece has its operands
+      pub walk-there : at + 1 + operandsOf kind ≤ n
+      walk-there = operands-left w first n at h (a .whole)
+
+      -- its words, then those of the rest
+      split : shortened (piecesLeft w first n at) ≡ here ++ rest
+      split =
+          ap shortened (first-left w first n at walk-there) ∙
+          first-shortened (scriptPiece w (first + at)) (piecesLeft w first n (at + 1 + operandsOf kind))
+
+      -- and how many they are
+      pub walk-room : done + (1 + givenOperands kind + length rest) ≡ length (shortened (piecesFrom w first n))
+      walk-room =
+          omega (arith, a .counted, ap length split, length-append here rest, unstarted-length w (first + at))
+
+      -- behind it the walk goes on
+      pub walk-next : {k given many : ℕ} → k ≡ kind → given ≡ givenOperands k → many ≡ operandsOf k →
+          Walk w first n (done + 1 + given) (at + 1 + many)
+      walk-next e f g =
+          rw (f, g, e)
+          (record {
+            whole = whole-left w first n at h (a .whole);
+            inside = walk-there;
+            fewer = omega (arith, a .fewer, given-fewer kind);
+            counted = omega (arith, walk-room);
+          })
+
+      -- its words placed, and behind them those of the rest
+      pub walk-placed : {k given many : ℕ} → k ≡ kind → given ≡ givenOperands k → many ≡ operandsOf k →
+          (lent : List ℤ) → length (shortened (piecesFrom w first n)) ≤ length lent →
+          placed (placed lent done (map signed here)) (done + 1 + given)
+          (map signed (shortened (piecesLeft w first n (at + 1 + many)))) ≡
+          placed lent done (map signed (shortened (piecesLeft w first n at)))
+      walk-placed e f g lent r =
+          let m = length-map here signed in
+          let l = unstarted-length w (first + at) in
+          rw (f, g, e)
+          (placed-behind lent done (map signed here) (omega (arith, walk-room)) (map signed rest)
+          (done + 1 + givenOperands kind) (omega arith) ∙
+          ap (placed lent done) (sym (map-append signed here rest) ∙ ap (map signed) (sym split)))

@@ -2,7 +2,7 @@
 use mathlib.Core.Path.{_≡_}
 use mathlib.Core.Bool.{Bool, true, false}
 use mathlib.Core.List.{List, [], _∷_, _++_, map}
-use Prim.Native.Nat.{ℕ, zero, suc, _+_, _*_, _≤_}
+use Prim.Native.Nat.{ℕ, _+_, _*_, _≤_}
 use lib.Dec.{ltb}
 use lib.IntN.{ℤ, pos}
 use lib.ListN.{length, take, drop, replicate}
@@ -12,28 +12,27 @@ use Rattle.zones.specs.declared.blues.Blues.{Blues}
 use Rattle.zones.specs.declared.state.HintParams.{HintParams}
 use Rattle.zones.specs.Zones.{maxBlues, noBlue}
 use Rattle.words.specs.declared.answer.Answer.{Answer}
-use Rattle.words.specs.declared.answer.Answer.the-variants.{Ok, NoRoom}
-use Rattle.words.specs.Words.{rawAt, numberAt}
+use Rattle.words.specs.declared.answer.Answer.the-variants.{NoRoom}
+use Rattle.words.specs.Words.{rawAt, numberAt, wordsFrom}
 use Rattle.words.specs.Rows.{Row, row}
 use Rattle.words.specs.Answers.{firstOf, refuses}
+use Rattle.words.specs.Bytes.{over}
 use Rattle.header.specs.Params.{paramsOf}
 use Rattle.commands.specs.Commands.{operandsOf}
 use Rattle.script.specs.Script.{checkRows}
 use Rattle.writer.specs.Pieces.{Piece, piecesOf, joined, Whole, unstarted}
 use Rattle.writer.specs.ToWrite.{Given, given}
-use Rattle.writer.specs.Refusals.{over}
 use Rattle.readback.specs.declared.reading_back.ReadBack.{ReadBack}
 
 -- ---- what a script says
--- n words from word i on
-unfoldable pub wordsFrom : (ℕ → ℕ) → ℕ → ℕ → List ℕ
-wordsFrom w i zero = []
-wordsFrom w i (suc n) = w i ∷ wordsFrom w (i + 1) n
+-- the pieces of n words from word i on, whatever gives them
+abbrev pub piecesFrom : (ℕ → ℕ) → ℕ → ℕ → List Piece
+piecesFrom w i n = piecesOf operandsOf (wordsFrom w i n)
 
 -- the pieces of a script's commands, which are as many words as word 5 says, from the offset in
 -- word 4 on
 abbrev pub scriptPieces : List ℕ → List Piece
-scriptPieces s = piecesOf operandsOf (wordsFrom (rawAt s) (rawAt s 4) (rawAt s 5))
+scriptPieces s = piecesFrom (rawAt s) (rawAt s 4) (rawAt s 5)
 
 -- the piece at word i, whatever gives its words
 abbrev pub scriptPiece : (ℕ → ℕ) → ℕ → Piece
@@ -81,10 +80,6 @@ pub record ReadResult : Type 0 where
   pub commands : List ℤ
   pub masks : List ℕ
 
--- some entries from place i on; those before and behind them stand
-unfoldable pub placed : {A : Type 0} → List A → ℕ → List A → List A
-placed lent i xs = take i lent ++ (xs ++ drop (i + length xs) lent)
-
 -- a refusal says nothing else, and changes no buffer
 abbrev pub refusedBack : Answer → ReadBack
 refusedBack a = record { answer = a; scale = ZERO; params = noParams; commands = 0; masks = 0 }
@@ -120,4 +115,4 @@ pub record ReadAs (o : ReadResult) (said : ReadBack) (commands : List ℤ) (mask
 pub record WholeCommands (s : List ℕ) (first n : ℕ) : Type 0 where
   pub there : 4 * (first + n) ≤ length s
   pub short : length s ≤ 65536
-  pub whole : Whole operandsOf (piecesOf operandsOf (wordsFrom (rawAt s) first n))
+  pub whole : Whole operandsOf (piecesFrom (rawAt s) first n)

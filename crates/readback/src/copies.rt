@@ -1,4 +1,4 @@
-// The commands and the mask bytes of a script, copied as the writer takes them.
+// The commands of a script, copied as the writer takes them.
 use commands::operands;
 use words::natural;
 use words::word;
@@ -6,19 +6,18 @@ use writer::given_operands;
 ghost use mathlib.Core.Path.{_≡_};
 ghost use mathlib.Core.List.{map};
 ghost use Prim.Native.Nat.{_+_, _*_, _≤_};
-ghost use lib.ListN.{length, take, drop};
+ghost use lib.ListN.{length};
 ghost use Rattle.fixed.specs.Integers.{signed};
-ghost use Rattle.words.specs.Words.{rawAt};
+ghost use Rattle.words.specs.Words.{rawAt, wordsFrom};
+ghost use Rattle.words.specs.Bytes.{over, placed};
 ghost use Rattle.commands.specs.Commands.{operandsOf};
-ghost use Rattle.writer.specs.Pieces.{piecesOf, pieceWords, givenOperands, unstarted};
-ghost use Rattle.writer.specs.Refusals.{over};
-ghost use Rattle.readback.specs.ReadBack.{wordsFrom, shortened, placed, scriptPiece, WholeCommands};
+ghost use Rattle.writer.specs.Pieces.{pieceWords, givenOperands, unstarted};
+ghost use Rattle.readback.specs.ReadBack.{piecesFrom, shortened, scriptPiece, WholeCommands};
 
 // How many words the commands have without the starts of their masks.
 pub(crate) fn count_short(script: &[u8], first: usize, n: usize) -> usize
     requires { ⌜ WholeCommands (now script) first n ⌝ }
-    ensures { λ r. ⌜ r ≡ length (shortened
-        (piecesOf operandsOf (wordsFrom (rawAt (now (script .entry))) first n))) ⌝ }
+    ensures { λ r. ⌜ r ≡ length (shortened (piecesFrom (rawAt (now (script .entry))) first n)) ⌝ }
 {
     let mut count = 0;
     let mut at = 0;
@@ -56,14 +55,13 @@ fn copy_piece(script: &[u8], at: usize, commands: &mut [i32], to: usize)
     copy_words(script, next - given, given, commands, to + 1);
 }
 
-// All of them, from the start of the commands on.
-pub(crate) fn copy_commands(script: &[u8], first: usize, n: usize, commands: &mut [i32])
+// All of them, from the start of the commands on, and how many words they have.
+pub(crate) fn copy_commands(script: &[u8], first: usize, n: usize, commands: &mut [i32]) -> usize
     requires { ⌜ WholeCommands (now script) first n ×
-        (length (shortened (piecesOf operandsOf (wordsFrom (rawAt (now script)) first n))) ≤
-        length (now commands)) ⌝ }
-    ensures { λ _. ⌜ now (commands .exit) ≡
-        over (map signed (shortened (piecesOf operandsOf (wordsFrom (rawAt (now (script .entry))) first n))))
-        (now (commands .entry)) ⌝ }
+        (length (shortened (piecesFrom (rawAt (now script)) first n)) ≤ length (now commands)) ⌝ }
+    ensures { λ r. ⌜ (r ≡ length (shortened (piecesFrom (rawAt (now (script .entry))) first n))) ×
+        (now (commands .exit) ≡
+        over (map signed (shortened (piecesFrom (rawAt (now (script .entry))) first n))) (now (commands .entry))) ⌝ }
 {
     let mut to = 0;
     let mut at = 0;
@@ -73,14 +71,5 @@ pub(crate) fn copy_commands(script: &[u8], first: usize, n: usize, commands: &mu
         to = to + 1 + given_operands(kind);
         at = at + 1 + operands(kind);
     }
-}
-
-// So many bytes of a script, from one on.
-pub(crate) fn copy_bytes(script: &[u8], from: usize, n: usize, masks: &mut [u8])
-    requires { ⌜ (from + n ≤ length (now script)) × (n ≤ length (now masks)) ⌝ }
-    ensures { λ _. ⌜ now (masks .exit) ≡ over (take n (drop from (now (script .entry)))) (now (masks .entry)) ⌝ }
-{
-    for i in 0..n {
-        masks[i] = script[from + i];
-    }
+    to
 }

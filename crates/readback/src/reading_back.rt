@@ -1,11 +1,11 @@
 // Reading a script back.
-use crate::copies::copy_bytes;
 use crate::copies::copy_commands;
 use crate::copies::count_short;
 use fixed::Fixed;
 use header::read_params;
 use script::check_script;
 use words::Answer;
+use words::copy_bytes;
 use words::layout;
 use words::natural;
 use words::number;
@@ -92,19 +92,16 @@ fn copied(script: &[u8], commands: &mut [i32], masks: &mut [u8]) -> ReadBack
 {
     let first = natural(script, layout::COMMANDS_START);
     let count = natural(script, layout::COMMANDS_COUNT);
+    let from = 4 * natural(script, layout::MASKS_START);
     let bytes = natural(script, layout::MASKS_COUNT);
-    copy_commands(script, first, count, commands);
-    copy_bytes(
-        script,
-        4 * natural(script, layout::MASKS_START),
-        bytes,
-        masks,
-    );
+    let end = from + bytes;
+    let words = copy_commands(script, first, count, commands);
+    copy_bytes(&script[from..end], masks);
     ReadBack {
         answer: Answer::Ok,
         scale: number(script, layout::SCALE),
         params: read_params(script),
-        commands: count_short(script, first, count),
+        commands: words,
         masks: bytes,
     }
 }

@@ -8,10 +8,12 @@ use lib.ListN.{length, take}
 use lib.Seq.{take-at}
 use borrow.Author.Tests.{le-ltb}
 use Rattle.words.specs.declared.answer.Answer.the-variants.{Ok}
-use Rattle.words.specs.Words.{rawAt}
+use Rattle.words.specs.Words.{rawAt, wordsFrom}
 use Rattle.words.specs.Rows.{Row, firstOr}
 use Rattle.words.specs.Answers.{firstOf}
+use Rattle.words.specs.Bytes.{over}
 use Rattle.words.proofs.Rows.{none-holds}
+use Rattle.words.proofs.Words.{from-length}
 use Rattle.header.specs.Header.{padded}
 use Rattle.header.specs.Params.{paramRows, bluesAt, paramsOf}
 use Rattle.header.proofs.Fine.{params-refusing}
@@ -22,14 +24,13 @@ use Rattle.writer.specs.declared.write_answer.WriteAnswer.{WriteAnswer}
 use Rattle.writer.specs.declared.write_answer.WriteAnswer.the-variants.{Written}
 use Rattle.writer.specs.Pieces.{Piece, piecesOf, joined, startsFrom, givenOperands, unstarted}
 use Rattle.writer.specs.ToWrite.{Given, piecesIn, commandWords, scriptFor}
-use Rattle.writer.specs.Refusals.{WriteResult, writeNumber, givenRows, pieceRows, roomRow, writeRows, writeAnswer, over}
+use Rattle.writer.specs.Refusals.{WriteResult, writeNumber, givenRows, pieceRows, roomRow, writeRows, writeAnswer}
 use Rattle.writer.specs.Refusals.{writeOf}
 use Rattle.writer.proofs.Cutting.{joined-pieces, pieces-joined}
 use Rattle.writer.proofs.PieceFaults.{NoneHold, none-both, none-onward, none-answer}
 use Rattle.writer.proofs.Sizes.{script-length}
 use Rattle.writer.proofs.Answering.{before, by-room, unrefused}
-use Rattle.readback.specs.ReadBack.{wordsFrom, scriptPieces, shortened, givenIn}
-use Rattle.readback.proofs.Shortened.{words-length}
+use Rattle.readback.specs.ReadBack.{scriptPieces, shortened, givenIn}
 use Rattle.readback.proofs.ReadRooms.{masks-length}
 use Rattle.round_trips.specs.RoundTrips.{Bytes, EndToEnd, WrittenAgain}
 use Rattle.round_trips.proofs.WordBytes.{all-bits}
@@ -79,7 +80,7 @@ module _ (s : List ℕ) (held : Bytes s) (e : firstOf (checkRows s) ≡ Ok) wher
   size : length (scriptFor g) ≡ length s
   size =
       let f = passed s e .fine in
-      let n = words-length (rawAt s) (rawAt s 4) (rawAt s 5) in
+      let n = from-length (rawAt s) (rawAt s 4) (rawAt s 5) in
       omega (
         arith,
         script-length g,

@@ -10,24 +10,25 @@ use lib.Dec.{eqb, ltb}
 use lib.ListN.{length, getD, length-append}
 use borrow.Author.Tests.{ne-eqb, le-ltb, lt-leb}
 use Rattle.words.specs.declared.answer.Answer.the-variants.{Ok}
-use Rattle.words.specs.Words.{rawAt}
+use Rattle.words.specs.Words.{rawAt, wordsFrom}
 use Rattle.words.specs.Answers.{firstOf}
+use Rattle.words.proofs.Words.{raw-drop, from-length}
 use Rattle.header.specs.Header.{outside}
 use Rattle.header.proofs.Tests.{both-false, high, before-end}
 use Rattle.commands.specs.declared.reading.Marking.the-variants.{Bad}
 use Rattle.commands.specs.declared.reading.Command.the-variants.{Mark}
 use Rattle.commands.specs.Commands.{operandsOf, commandOf, nextAt, readAt, CommandAt, commandsFrom}
 use Rattle.commands.specs.Faults.{maskPast, isBad, hasBadMask, faultRows, commandRows}
-use Rattle.commands.proofs.Laws.{none, first, from-start}
+use Rattle.commands.proofs.Laws.{none, first, from-start, read-fine}
 use Rattle.script.specs.Script.{commandsIn, checkRows}
 use Rattle.writer.specs.Pieces.{Piece, pieceWords, joined, Whole, isMask, givenOperands, bytesTaken, started}
 use Rattle.writer.specs.Pieces.{startsFrom}
 use Rattle.writer.specs.Refusals.{badPiece, tooLong, pieceRows}
 use Rattle.writer.proofs.Cutting.{mask-two}
 use Rattle.writer.proofs.PieceFaults.{NoneHold, taken-left}
-use Rattle.readback.specs.ReadBack.{wordsFrom, scriptPieces, scriptPiece}
-use Rattle.readback.proofs.Accepted.{raw-drop, read-fine, behind, along-commands, pieces, next-pieces}
-use Rattle.readback.proofs.Shortened.{words-length, all-left, none-left}
+use Rattle.readback.specs.ReadBack.{scriptPieces, scriptPiece}
+use Rattle.readback.proofs.Accepted.{behind, along-commands, pieces, next-pieces}
+use Rattle.readback.proofs.Shortened.{all-left, none-left}
 use Rattle.round_trips.specs.RoundTrips.{Bytes, Part, partsIn, partsOf, pieceWord}
 use Rattle.round_trips.proofs.WordBytes.{Holds, holds-front, holds-back, from-small, word-small}
 use Rattle.round_trips.proofs.EndToEnd.{Sound, mask, plain, partOf, partsOfPieces}
@@ -201,7 +202,7 @@ module _ (w : ℕ → ℕ) (i : ℕ) where
       go true e = rw (mask-two (w i) e) (mask e r (small i, (small (i + 1), (small (i + 1 + 1), tt))) h)
       go false e =
           let n = operandsOf (w i) in
-          plain e r (words-length w (i + 1) n) (small i, from-small w small (i + 1) n) h
+          plain e r (from-length w (i + 1) n) (small i, from-small w small (i + 1) n) h
 
   -- and has the mask at its word
   piece-part : cond (isMask (w i)) (partOf (scriptPiece w i) ∷ []) [] ≡ cond (isMask (w i)) (maskAt w i 0 ∷ []) []

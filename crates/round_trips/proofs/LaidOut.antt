@@ -11,9 +11,10 @@ use lib.Seq.{drop-at, drop-drop}
 use borrow.Author.Tests.{eqb-true, not-false}
 use Rattle.fixed.specs.Integers.{bitsOf}
 use Rattle.words.specs.declared.answer.Answer.the-variants.{Ok}
-use Rattle.words.specs.Words.{rawAt, negative}
+use Rattle.words.specs.Words.{rawAt, negative, wordsFrom}
 use Rattle.words.specs.Bytes.{bytesOf}
 use Rattle.words.specs.Answers.{firstOf}
+use Rattle.words.proofs.Words.{raw-drop, from-length, words-split}
 use Rattle.words.proofs.Rows.{none-holds}
 use Rattle.words.proofs.Laid.{bytes-length}
 use Rattle.header.specs.Header.{differs, outside, allZero, padded, lengthBad, headerRows}
@@ -29,10 +30,8 @@ use Rattle.writer.proofs.Cutting.{joined-pieces}
 use Rattle.writer.proofs.Laying.{signed-bits}
 use Rattle.writer.proofs.Sizes.{words-length, script-length}
 use Rattle.writer.proofs.Answering.{Unrefused}
-use Rattle.readback.specs.ReadBack.{wordsFrom, givenIn}
-use Rattle.readback.proofs.Accepted.{raw-drop}
+use Rattle.readback.specs.ReadBack.{givenIn}
 use Rattle.readback.proofs.ReadRooms.{masks-length}
-use Rattle.readback.proofs.Shortened.{words-length as from-length, words-split}
 use Rattle.round_trips.specs.RoundTrips.{Bytes}
 use Rattle.round_trips.proofs.WordBytes.{Small, small-both, bits-small, Holds, holds-front, holds-back}
 use Rattle.round_trips.proofs.WordBytes.{holds-moved, words-there, word-small, bytes-from}

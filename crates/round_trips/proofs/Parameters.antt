@@ -14,13 +14,12 @@ use Rattle.zones.specs.declared.blues.Blue.{Blue}
 use Rattle.zones.specs.declared.blues.Blues.{Blues}
 use Rattle.zones.specs.declared.state.HintParams.{HintParams}
 use Rattle.zones.specs.Zones.{maxBlues, noBlue, listOf}
-use Rattle.words.specs.Words.{wordAt, numberAt}
+use Rattle.words.specs.Words.{wordAt, numberAt, wordsFrom}
+use Rattle.words.proofs.Words.{words-split}
 use Rattle.header.specs.Params.{pairsIn, pairsFrom, bluesAt, paramsOf}
 use Rattle.writer.specs.ToWrite.{numberWord, pairWords, numberWords, paramWords}
 use Rattle.writer.specs.Refusals.{FineParams}
 use Rattle.writer.proofs.Laying.{Sevens, list-length, list-words, signed-bits}
-use Rattle.readback.specs.ReadBack.{wordsFrom}
-use Rattle.readback.proofs.Shortened.{words-split}
 use Rattle.round_trips.specs.RoundTrips.{Held, HeldBlues, HeldParams, keptBlues, keptParams}
 use Rattle.round_trips.proofs.WordBytes.{Small, small-both, Holds, holds-front, holds-back, number-back}
 

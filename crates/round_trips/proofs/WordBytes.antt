@@ -14,12 +14,11 @@ use mir.Syntax.{w32}
 use mir.Val.{SFits}
 use Rattle.fixed.specs.Integers.{bitsOf, signed, wrap32}
 use Rattle.fixed.proofs.Bits.{wrap-id, low-lt}
-use Rattle.words.specs.Words.{rawAt}
+use Rattle.words.specs.Words.{rawAt, wordsFrom}
 use Rattle.words.specs.Bytes.{wordBytes, bytesOf}
+use Rattle.words.proofs.Words.{raw-drop}
 use Rattle.writer.proofs.Cutting.{rest-at}
 use Rattle.writer.proofs.Laying.{signed-bits}
-use Rattle.readback.specs.ReadBack.{wordsFrom}
-use Rattle.readback.proofs.Accepted.{raw-drop}
 use Rattle.round_trips.specs.RoundTrips.{Bytes}
 
 -- ---- words below 2^32

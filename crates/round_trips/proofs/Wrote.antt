@@ -9,9 +9,10 @@ use lib.ListN.{length, take, drop}
 use lib.Seq.{take-at}
 use borrow.Author.Tests.{eq-eqb, eqb-true, eqb-false}
 use Rattle.words.specs.Rows.{firstOr}
+use Rattle.words.specs.Bytes.{over}
 use Rattle.writer.specs.declared.write_answer.WriteAnswer.the-variants.{Written, ScriptRoom}
 use Rattle.writer.specs.ToWrite.{Given, scriptFor}
-use Rattle.writer.specs.Refusals.{writeNumber, writtenBytes, writeRefuses, roomRow, writeAnswer, over, bufferBy}
+use Rattle.writer.specs.Refusals.{writeNumber, writtenBytes, writeRefuses, roomRow, writeAnswer, bufferBy}
 use Rattle.writer.specs.Refusals.{writeOf, Wrote}
 use Rattle.writer.proofs.Answering.{before, before-fine, refused-before, by-room}
 use Rattle.round_trips.specs.RoundTrips.{HeldGiven, SaysBack, WrittenBack}

@@ -14,6 +14,7 @@ use Rattle.zones.specs.Zones.{maxBlues, noBlue, listOf}
 use Rattle.words.specs.declared.answer.Answer.the-variants.{Ok}
 use Rattle.words.specs.Words.{rawAt}
 use Rattle.words.specs.Answers.{firstOf}
+use Rattle.words.specs.Bytes.{over}
 use Rattle.commands.specs.declared.reading.Marking.the-variants.{Bad, Stem, Mask, Counter, Clear, Close}
 use Rattle.commands.specs.declared.reading.Command.{Command}
 use Rattle.commands.specs.declared.reading.Command.the-variants.{Mark, Draw}
@@ -24,7 +25,7 @@ use Rattle.script.specs.Script.{commandsIn, callsIn, checkRows}
 use Rattle.writer.specs.declared.write_answer.WriteAnswer.the-variants.{Written}
 use Rattle.writer.specs.Pieces.{Piece, pieceWords, bytesTaken, started}
 use Rattle.writer.specs.ToWrite.{Given, given, piecesIn, scriptFor}
-use Rattle.writer.specs.Refusals.{over, writeOf}
+use Rattle.writer.specs.Refusals.{writeOf}
 use Rattle.readback.specs.ReadBack.{givenIn}
 
 -- ---- what arguments hold

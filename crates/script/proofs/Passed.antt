@@ -12,14 +12,24 @@ use Rattle.hints.specs.Calls.{newDrawing}
 use Rattle.words.specs.declared.answer.Answer.the-variants.{Ok}
 use Rattle.words.specs.Words.{rawAt, numberAt}
 use Rattle.words.specs.Answers.{firstOf}
+use Rattle.words.proofs.Rows.{Refusing, both-refusing}
 use Rattle.words.proofs.Answers.{both-ok}
 use Rattle.header.specs.Header.{headerRows}
 use Rattle.header.specs.Params.{paramRows, paramsOf, WholeParams}
 use Rattle.header.proofs.Fine.{Fine, fine, whole, header-refusing, params-refusing}
 use Rattle.commands.specs.Faults.{commandRows}
+use Rattle.commands.proofs.Laws.{rows-refusing}
 use Rattle.run.specs.Room.{fitted}
 use Rattle.run.specs.Run.{stepsOf, endingOf, ranOf, Runnable}
 use Rattle.script.specs.Script.{commandsIn, callsIn, checkRows, zonesOf, stepsIn}
+
+-- every test of a script refuses
+pub checks-refusing : (s : List ℕ) → Refusing Ok (checkRows s)
+unfolding checkRows
+checks-refusing s =
+    let cs = commandRows (rawAt s 7) (commandsIn s) in
+    both-refusing Ok (headerRows s) (paramRows (rawAt s) ++ cs) (header-refusing s)
+    (both-refusing Ok (paramRows (rawAt s)) cs (params-refusing s) (rows-refusing (rawAt s 7) (commandsIn s)))
 
 pub record Passed (s : List ℕ) : Type 0 where
   pub header : firstOf (headerRows s) ≡ Ok

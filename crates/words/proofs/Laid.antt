@@ -1,16 +1,17 @@
 -- Laws of words laid over bytes: four stores lay one, those behind others are laid behind them, and
 -- no byte is lost. Assumes nothing.
 use mathlib.Core.Path.{_≡_, refl, sym, ap, _∙_}
-use mathlib.Core.List.{List, [], _∷_, _++_, map, append-assoc, map-append}
+use mathlib.Core.List.{List, [], _∷_, _++_, map, map-append}
 use Prim.Native.Nat.{ℕ, zero, suc, _+_, _*_, _/_, _%_, _≤_, _<_}
 use native.Mathlib.Numerals.{add-one}
 use native.Mathlib.Nat.{div-add-mod'}
 use native.Mathlib.Omega.{arith}
 use lib.IntN.{ℤ, pos}
-use lib.ListN.{length, take, drop, set, getD, length-append, length-take, length-drop, length-map, take-append-drop}
-use lib.Seq.{length-take-le, take-suc, take-at, drop-at, drop-drop}
+use lib.ListN.{length, take, drop, set, getD, length-map}
+use lib.Seq.{length-take-le, take-suc}
 use Rattle.fixed.specs.Integers.{bitsOf}
-use Rattle.words.specs.Bytes.{wordBytes, bytesOf, laid}
+use Rattle.words.specs.Bytes.{wordBytes, bytesOf, placed, laid}
+use Rattle.words.proofs.Placing.{placed-none, placed-length, placed-behind}
 
 -- ---- four bytes a word
 pub bytes-length : (ws : List ℕ) → length (bytesOf ws) ≡ 4 * length ws
@@ -45,42 +46,31 @@ pub store-laid : (b : List ℕ) (i w : ℕ) → 4 * i + 4 ≤ length b →
 unfolding laid bytesOf
 store-laid b i w h = stores (4 * i) b _ _ _ _ h
 
--- ---- words behind others
+-- ---- some words are laid as their bytes are placed
+laid-placed : (b : List ℕ) (i : ℕ) (ws : List ℕ) → laid b i ws ≡ placed b (4 * i) (bytesOf ws)
+unfolding laid placed
+laid-placed b i ws = rw (bytes-length ws)
+
 module _ (b : List ℕ) (i : ℕ) (ws : List ℕ) (h : 4 * i + 4 * length ws ≤ length b) where
-  front : length (take (4 * i) b ++ bytesOf ws) ≡ 4 * i + 4 * length ws
-  front =
-      length-append (take (4 * i) b) (bytesOf ws) ∙
-      omega (arith, bytes-length ws, length-take-le (4 * i) b (omega arith))
+  room : 4 * i + length (bytesOf ws) ≤ length b
+  room = omega (arith, bytes-length ws)
 
   pub laid-length : length (laid b i ws) ≡ length b
-  unfolding laid
-  laid-length =
-      ap length (sym (append-assoc (take (4 * i) b) (bytesOf ws) (drop (4 * i + 4 * length ws) b))) ∙
-      length-append (take (4 * i) b ++ bytesOf ws) (drop (4 * i + 4 * length ws) b) ∙
-      omega (arith, front, length-drop (4 * i + 4 * length ws) b)
+  laid-length = ap length (laid-placed b i ws) ∙ placed-length b (4 * i) (bytesOf ws) room
 
+  -- words behind others
   pub laid-behind : (vs : List ℕ) (j : ℕ) → j ≡ i + length ws → laid (laid b i ws) j vs ≡ laid b i (ws ++ vs)
-  unfolding laid
   laid-behind vs j e =
-      let f = take (4 * i) b ++ bytesOf ws in
-      let n = 4 * i + 4 * length ws in
-      let k : 4 * j ≡ n = omega arith in
-      let m : n + 4 * length vs ≡ 4 * i + 4 * length (ws ++ vs) = omega (arith, length-append ws vs) in
-      let rest = drop (4 * i + 4 * length (ws ++ vs)) b in
-      let fore : take n (f ++ drop n b) ≡ f = take-at f (drop n b) n front in
-      let aft : drop (n + 4 * length vs) (f ++ drop n b) ≡ rest =
-      sym (drop-drop (4 * length vs) n (f ++ drop n b)) ∙ ap (drop (4 * length vs)) (drop-at f (drop n b) n front) ∙
-      drop-drop (4 * length vs) n b ∙ ap (λ (x : ℕ). drop x b) m in
-      rw (k, sym (append-assoc (take (4 * i) b) (bytesOf ws) (drop n b)), fore, aft, bytes-append ws vs)
-      (append-assoc (take (4 * i) b) (bytesOf ws) (bytesOf vs ++ rest) ∙
-      ap (λ (l : List ℕ). take (4 * i) b ++ l) (sym (append-assoc (bytesOf ws) (bytesOf vs) rest)))
+      laid-placed (laid b i ws) j vs ∙
+      ap (λ (x : List ℕ). placed x (4 * j) (bytesOf vs)) (laid-placed b i ws) ∙
+      placed-behind b (4 * i) (bytesOf ws) room (bytesOf vs) (4 * j) (omega (arith, bytes-length ws)) ∙
+      ap (placed b (4 * i)) (sym (bytes-append ws vs)) ∙
+      sym (laid-placed b i (ws ++ vs))
 
 -- no words leave the bytes as they are
 pub laid-none : (b : List ℕ) (i : ℕ) → laid b i [] ≡ b
-unfolding laid bytesOf
-laid-none b i =
-    let e : 4 * i + 0 ≡ 4 * i = omega arith in
-    rw e (take-append-drop (4 * i) b)
+unfolding bytesOf
+laid-none b i = laid-placed b i [] ∙ placed-none b (4 * i)
 
 -- ---- the first words of an output, as bits
 pub words-length : (out : List ℤ) (i : ℕ) → i ≤ length out → length (map bitsOf (take i out)) ≡ i

@@ -35,6 +35,12 @@ module _ {A : Type 0} (ok : A) where
   rest-refusing : (r : Row A) (rs : List (Row A)) → Refusing (r ∷ rs) → Refusing rs
   rest-refusing r rs h = λ j l. h (suc j) (omega arith)
 
+  -- tests in two lists refuse if those of each do
+  pub both-refusing : (rs qs : List (Row A)) → Refusing rs → Refusing qs → Refusing (rs ++ qs)
+  both-refusing [] qs h g j l = g j l
+  both-refusing (r ∷ rs) qs h g zero l = h 0 (omega arith)
+  both-refusing (r ∷ rs) qs h g (suc j) l = both-refusing rs qs (rest-refusing r rs h) g j (omega arith)
+
   -- where none of them gives the answer, no test holds
   pub none-holds : (rs : List (Row A)) → Refusing rs → firstOr ok rs ≡ ok → (k : ℕ) → rowAt ok rs k .fault ≡ false
   unfolding firstOr

@@ -19,6 +19,9 @@ use Rattle.words.proofs.read.raw.Reads as raw-reads
 use Rattle.words.proofs.read.word as word
 use Rattle.words.proofs.read.word.Kinds as word-kinds
 use Rattle.words.proofs.read.word.Reads as word-reads
+use Rattle.words.proofs.storing.copy_bytes as copy
+use Rattle.words.proofs.storing.copy_bytes.Kinds as copy-kinds
+use Rattle.words.proofs.storing.copy_bytes.Reads as copy-reads
 use Rattle.words.proofs.storing.store as store
 use Rattle.words.proofs.storing.store.Kinds as store-kinds
 use Rattle.words.proofs.storing.store.Reads as store-reads
@@ -65,3 +68,8 @@ module _ (κs : Lfts 2) (a : ArgsD words.signature κs) (r r′ : ResD words.sig
     (x x′ : AtExit (endedOf 2 words-kinds.ps words-kinds.r) κs) where
   pub store-words-unique : words-reads.Post κs a r x → words-reads.Post κs a r′ x′ → now (x .0) ≡ now (x′ .0)
   store-words-unique p q = p ∙ sym q
+
+module _ (κs : Lfts 2) (a : ArgsD copy.signature κs) (r r′ : ResD copy.signature κs)
+    (x x′ : AtExit (endedOf 2 copy-kinds.ps copy-kinds.r) κs) where
+  pub copy-bytes-unique : copy-reads.Post κs a r x → copy-reads.Post κs a r′ x′ → now (x .1 .0) ≡ now (x′ .1 .0)
+  copy-bytes-unique p q = p ∙ sym q

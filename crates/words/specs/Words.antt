@@ -1,7 +1,7 @@
 -- Words of a script (01, "The script"): four bytes, the least first.
 use mathlib.Core.Bool.{Bool}
-use mathlib.Core.List.{List}
-use Prim.Native.Nat.{ℕ, _+_, _*_, _^_}
+use mathlib.Core.List.{List, [], _∷_}
+use Prim.Native.Nat.{ℕ, zero, suc, _+_, _*_, _^_}
 use lib.Dec.{leb}
 use lib.ListN.{getD}
 use lib.IntN.{ℤ}
@@ -26,3 +26,8 @@ wordAt w i = signed (w i)
 -- word i as a number in 16.16
 abbrev pub numberAt : (ℕ → ℕ) → ℕ → Fixed
 numberAt w i = fromBits (wordAt w i)
+
+-- n words from word i on
+unfoldable pub wordsFrom : (ℕ → ℕ) → ℕ → ℕ → List ℕ
+wordsFrom w i zero = []
+wordsFrom w i (suc n) = w i ∷ wordsFrom w (i + 1) n

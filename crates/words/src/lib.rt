@@ -9,5 +9,6 @@ pub use read::natural;
 pub use read::number;
 pub use read::raw;
 pub use read::word;
+pub use storing::copy_bytes;
 pub use storing::store;
 pub use storing::store_words;

@@ -11,13 +11,14 @@ use lib.ListN.{length}
 use borrow.Author.Tests.{eqb-true, eq-eqb, ne-eqb, ltb-false, not-false}
 use Rattle.fixed.specs.Fixed.{fromBits, lessF}
 use Rattle.words.specs.Rows.{Row, firstOr}
+use Rattle.words.specs.Bytes.{over}
 use Rattle.words.proofs.Rows.{found-else}
 use Rattle.header.proofs.Tests.{both-false}
 use Rattle.writer.specs.declared.write_answer.WriteAnswer.{WriteAnswer}
 use Rattle.writer.specs.declared.write_answer.WriteAnswer.the-variants.{Written, ScriptRoom}
 use Rattle.writer.specs.ToWrite.{Given, piecesIn, scriptFor}
 use Rattle.writer.specs.Refusals.{writeNumber, writeRefuses, givenRows, pieceRows, roomRow, writeRows}
-use Rattle.writer.specs.Refusals.{writeAnswer, over, bufferBy, writeOf, Wrote, FineParams}
+use Rattle.writer.specs.Refusals.{writeAnswer, bufferBy, writeOf, Wrote, FineParams}
 use Rattle.writer.proofs.PieceFaults.{Refuse, given-refuse, pieces-refuse, not-fine, none-hold}
 use Rattle.writer.proofs.PieceFaults.{fine-is, NoneHold}
 use Rattle.writer.proofs.PieceFaults.{none-front, none-back, none-onward, none-answer, counts-fine}

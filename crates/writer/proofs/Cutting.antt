@@ -200,7 +200,15 @@ mask-two k e = by (eqb k 2) refl e
     by true f q = ap operandsOf (eqb-true k 2 f)
     by false f q = ap operandsOf (eqb-true k 3 q)
 
--- so a piece that is whole as given is whole with its start
+-- so it is given with fewer, and no kind with more
+pub given-fewer : (k : ℕ) → givenOperands k ≤ operandsOf k
+given-fewer k = by (isMask k) refl
+  where
+    by : (b : Bool) → isMask k ≡ b → givenOperands k ≤ operandsOf k
+    by true e = omega (arith, mask-operands k e, mask-two k e)
+    by false e = omega (arith, other-operands k e)
+
+-- a piece that is whole as given is whole with its start
 pub started-whole : (n : ℕ) (p : Piece) → length (p .operands) ≡ givenOperands (p .kind) →
     length (started n p .operands) ≡ operandsOf (p .kind)
 unfolding givenOperands

@@ -1,7 +1,6 @@
 pub mod Cutting
 pub mod PieceFaults
 pub mod Laying
-pub mod Padding
 pub mod Walking
 pub mod Sizes
 pub mod Answering

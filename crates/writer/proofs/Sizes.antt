@@ -8,13 +8,12 @@ use lib.ListN.{length, drop, replicate, length-append, length-replicate, length-
 use lib.Seq.{take-at, drop-at, drop-drop}
 use borrow.Rule.Slice.PartMut.{putMid}
 use Rattle.fixed.specs.Integers.{bitsOf}
-use Rattle.words.specs.Bytes.{bytesOf, laid}
+use Rattle.words.specs.Bytes.{bytesOf, laid, over}
 use Rattle.words.proofs.Laid.{bytes-length, laid-behind}
 use Rattle.header.specs.Header.{padded}
 use Rattle.writer.specs.Pieces.{givenOperands, masksIn}
 use Rattle.writer.specs.ToWrite.{Given, piecesIn, paramWords, commandWords, headerWords, scriptWords, paddedBytes}
 use Rattle.writer.specs.ToWrite.{scriptFor}
-use Rattle.writer.specs.Refusals.{over}
 use Rattle.writer.proofs.Cutting.{joined-pieces, started-length}
 
 -- the commands have one word more for each mask

@@ -6,12 +6,13 @@ use mathlib.Core.List.{List, [], _∷_, _++_}
 use Prim.Native.Nat.{ℕ, _+_, _-_, _≤_}
 use lib.Dec.{eqb, ltb}
 use lib.IntN.{ℤ, pos}
-use lib.ListN.{length, drop}
+use lib.ListN.{length}
 use Rattle.fixed.specs.declared.Fixed.{Fixed}
 use Rattle.fixed.specs.Fixed.{fromBits, lessF}
 use Rattle.zones.specs.declared.state.HintParams.{HintParams}
 use Rattle.zones.specs.Zones.{maxBlues}
 use Rattle.words.specs.Words.{negative}
+use Rattle.words.specs.Bytes.{over}
 use Rattle.words.specs.Rows.{Row, row, firstOr}
 use Rattle.header.specs.Header.{outside}
 use Rattle.writer.specs.declared.write_answer.WriteAnswer.{WriteAnswer}
@@ -97,10 +98,6 @@ writeAnswer g room = firstOr (Written (length (scriptFor g))) (writeRows g room)
 pub record WriteResult : Type 0 where
   pub answer : WriteAnswer
   pub left : List ℕ
-
--- what is written at the start of what is lent, whose rest stands
-unfoldable pub over : {A : Type 0} → List A → List A → List A
-over xs lent = xs ++ drop (length xs) lent
 
 abbrev pub bufferBy : Bool → List ℕ → List ℕ → List ℕ
 bufferBy true script lent = lent

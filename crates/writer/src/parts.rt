@@ -7,6 +7,7 @@ use crate::pieces::is_mask;
 use commands::operands;
 use fixed::Fixed;
 use fixed::bits_of;
+use words::copy_bytes;
 use words::layout;
 use words::store;
 use words::store_words;
@@ -171,9 +172,7 @@ pub(crate) fn store_masks(part: &mut [u8], masks: &[u8])
     requires { ⌜ length (now part) ≡ 4 * padded (length (now masks)) ⌝ }
     ensures { λ _. ⌜ now (part .exit) ≡ paddedBytes (now (masks .entry)) ⌝ }
 {
-    for i in 0..masks.len() {
-        part[i] = masks[i];
-    }
+    copy_bytes(masks, part);
     for i in masks.len()..part.len() {
         part[i] = 0;
     }

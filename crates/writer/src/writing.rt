@@ -13,8 +13,9 @@ use words::layout;
 use zones::HintParams;
 ghost use mathlib.Core.Path.{_≡_};
 ghost use lib.ListN.{length};
+ghost use Rattle.words.specs.Bytes.{over};
 ghost use Rattle.writer.specs.ToWrite.{given, scriptFor};
-ghost use Rattle.writer.specs.Refusals.{writeOf, over, Wrote, Writable};
+ghost use Rattle.writer.specs.Refusals.{writeOf, Wrote, Writable};
 
 // Stores a script that no test holds of; how many bytes it has.
 fn write_parts(

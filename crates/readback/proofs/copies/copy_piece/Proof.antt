@@ -8,12 +8,14 @@ use lib.IntN.{ℤ}
 use lib.ListN.{length}
 use borrow.Author.Needs.{needs}
 use Rattle.fixed.specs.Integers.{signed}
-use Rattle.words.specs.Words.{rawAt}
+use Rattle.words.specs.Words.{rawAt, wordsFrom}
+use Rattle.words.specs.Bytes.{placed}
+use Rattle.words.proofs.Placing.{placed-behind}
 use Rattle.commands.specs.Commands.{operandsOf}
 use Rattle.writer.specs.Pieces.{pieceWords, givenOperands, unstarted}
-use Rattle.readback.specs.ReadBack.{wordsFrom, scriptPiece, placed}
-use Rattle.readback.proofs.Placing.{placed-behind}
-use Rattle.readback.proofs.Shortened.{given-fewer, unstarted-words}
+use Rattle.writer.proofs.Cutting.{given-fewer}
+use Rattle.readback.specs.ReadBack.{scriptPiece}
+use Rattle.readback.proofs.Shortened.{unstarted-words}
 use Rattle.readback.proofs.copies.copy_piece.Statement.{statement}
 use Rattle.readback.proofs.copies.copy_piece.Tie as tie
 

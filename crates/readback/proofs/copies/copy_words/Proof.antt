@@ -10,10 +10,10 @@ use mir.Val.{SFits}
 use mir.Facts.{toZ-ofZ}
 use borrow.Author.Needs.{needs}
 use Rattle.fixed.specs.Integers.{signed}
-use Rattle.words.specs.Words.{rawAt}
-use Rattle.readback.specs.ReadBack.{placed, wordsFrom}
-use Rattle.readback.proofs.Placing.{placed-none, placed-store}
-use Rattle.readback.proofs.Shortened.{words-none, words-onward}
+use Rattle.words.specs.Words.{rawAt, wordsFrom}
+use Rattle.words.specs.Bytes.{placed}
+use Rattle.words.proofs.Words.{words-none, words-onward}
+use Rattle.words.proofs.Placing.{placed-none, placed-store}
 use Rattle.readback.proofs.copies.copy_words.Statement.{statement}
 use Rattle.readback.proofs.copies.copy_words.Tie as tie
 

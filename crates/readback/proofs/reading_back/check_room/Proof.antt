@@ -1,14 +1,13 @@
 -- `check_room` answers by the tests of room, which stand behind a script's own. Assumes nothing.
-use mathlib.Core.Path.{_≡_, ap, _∙_}
+use mathlib.Core.Path.{_≡_}
 use mathlib.Core.List.{List}
 use Prim.Native.Nat.{ℕ, _≤_}
 use native.Mathlib.Omega.{arith}
 use lib.ListN.{length}
-use Rattle.writer.specs.Pieces.{Piece}
 use Rattle.script.proofs.Passed.{passed}
 use Rattle.readback.specs.ReadBack.{scriptPieces, shortened}
 use Rattle.readback.proofs.Accepted.{whole-commands}
-use Rattle.readback.proofs.ReadRooms.{pieces-are, few-words, few-bytes, enough}
+use Rattle.readback.proofs.ReadRooms.{few-words, few-bytes, enough}
 use Rattle.readback.proofs.reading_back.check_room.Statement.{statement}
 use Rattle.readback.proofs.reading_back.check_room.Tie as tie
 
@@ -25,9 +24,7 @@ module _ (c : tie.After-count-short) where
   script = begin .args .script .now
 
   counted : c .count-short .result ≡ length (shortened (scriptPieces script))
-  counted =
-      c .count-short .ensures ∙ ap (λ (ps : List Piece). length (shortened ps))
-      (pieces-are script (c .before .before .natural .ensures .0) (c .before .natural2 .ensures .0))
+  counted = rw (c .before .before .natural .ensures .0, c .before .natural2 .ensures .0) at (c .count-short .ensures)
 
 natural-requires : tie.Need-natural-requires
 natural-requires c κs = omega (arith, header (c .before))

@@ -1,23 +1,18 @@
 -- `copied` reads a script with room: its words, its mask bytes, and what it says beside them, by the
 -- contracts of its calls. Assumes nothing.
-use mathlib.Core.Path.{_≡_, sym, ap, _∙_}
-use mathlib.Core.List.{List, map}
-use Prim.Native.Nat.{ℕ, _*_, _≤_}
+use mathlib.Core.Path.{_≡_, sym, _∙_}
+use mathlib.Core.List.{List}
+use Prim.Native.Nat.{ℕ}
 use native.Mathlib.Omega.{arith}
-use lib.ListN.{length, take, drop}
+use lib.ListN.{length}
 use borrow.Author.Needs.{needs}
-use Rattle.fixed.specs.Integers.{signed}
 use Rattle.words.specs.declared.answer.Answer.the-variants.{Ok}
-use Rattle.words.specs.Words.{rawAt}
 use Rattle.words.specs.Answers.{firstOf}
-use Rattle.commands.specs.Commands.{operandsOf}
-use Rattle.writer.specs.Pieces.{Piece, piecesOf}
-use Rattle.writer.specs.Refusals.{over}
 use Rattle.script.specs.Script.{checkRows}
 use Rattle.script.proofs.Passed.{Passed, passed}
-use Rattle.readback.specs.ReadBack.{wordsFrom, scriptPieces, shortened, givenIn, WholeCommands}
+use Rattle.readback.specs.ReadBack.{givenIn}
 use Rattle.readback.proofs.Accepted.{whole-commands}
-use Rattle.readback.proofs.ReadRooms.{pieces-are, commands-length, masks-length, accepted, words-fit, bytes-fit}
+use Rattle.readback.proofs.ReadRooms.{commands-length, masks-length, masks-part, accepted, words-fit, bytes-fit}
 use Rattle.readback.proofs.ReadRooms.{said-is}
 use Rattle.readback.proofs.reading_back.copied.Statement.{statement}
 use Rattle.readback.proofs.reading_back.copied.Tie as tie
@@ -33,39 +28,9 @@ module _ (c : tie.Start) where
   fine : Passed script
   fine = passed script ok
 
--- its commands are whole
-module _ (c : tie.After-natural3) where
-  abbrev begin : tie.Start
-  begin = c .before .before .before .before .before
-
-  whole : WholeCommands (script begin) (c .before .before .natural .result) (c .before .natural2 .result)
-  whole =
-      whole-commands (script begin) (ok begin) (c .before .before .natural .ensures .0)
-      (c .before .natural2 .ensures .0)
-
-  -- their pieces are those that are given
-  abbrev pieces : List Piece
-  pieces =
-      piecesOf operandsOf
-      (wordsFrom (rawAt (script begin)) (c .before .before .natural .result) (c .before .natural2 .result))
-
-  pieces-is : pieces ≡ scriptPieces (script begin)
-  pieces-is = pieces-are (script begin) (c .before .before .natural .ensures .0) (c .before .natural2 .ensures .0)
-
-  -- they have room
-  words-room : length (shortened pieces) ≤ length (begin .args .commands .now)
-  words-room =
-      rw pieces-is
-      (words-fit (script begin) (length (begin .args .commands .now)) (length (begin .args .masks .now)) (begin .pre))
-
-  -- and so have the mask bytes
-  bytes-room : c .natural3 .result ≤ length (begin .args .masks .now)
-  bytes-room =
-      omega (
-        arith,
-        c .natural3 .ensures .0,
-        bytes-fit (script begin) (length (begin .args .commands .now)) (length (begin .args .masks .now)) (begin .pre),
-      )
+-- the start, from where the header has been read
+abbrev begin : tie.After-natural4 → tie.Start
+begin c = c .before .before .before .before .before .before
 
 natural-requires : tie.Need-natural-requires
 natural-requires c κs = omega (arith, fine (c .before .before) .fine .enough)
@@ -76,22 +41,42 @@ natural-requires-2 c κs = omega (arith, fine (c .before .before .before) .fine 
 natural-requires-3 : tie.Need-natural-requires-3
 natural-requires-3 c κs = omega (arith, fine (c .before .before .before .before) .fine .enough)
 
-copy-commands-requires : tie.Need-copy-commands-requires
-copy-commands-requires c κs = (whole (c .before), words-room (c .before))
+mul-from : tie.Need-mul-from
+mul-from c = search needs
 
 natural-requires-4 : tie.Need-natural-requires-4
-natural-requires-4 c κs =
-    omega (arith, fine (begin (c .before .before .before)) .fine .enough)
+natural-requires-4 c κs = omega (arith, fine (c .before .before .before .before .before) .fine .enough)
 
-mul-copy-bytes : tie.Need-mul-copy-bytes
-mul-copy-bytes c = search needs
+add-end : tie.Need-add-end
+add-end c = search needs
+
+copy-commands-requires : tie.Need-copy-commands-requires
+copy-commands-requires c κs =
+    let n = c .before .before .before in
+    let b = begin (c .before) in
+    let f = n .before .natural .ensures .0 in
+    let g = n .natural2 .ensures .0 in (
+      whole-commands (script b) (ok b) f g,
+      rw (f, g) (words-fit (script b) (length (b .args .commands .now)) (length (b .args .masks .now)) (b .pre)),
+    )
+
+sub-copy-bytes : tie.Need-sub-copy-bytes
+sub-copy-bytes c = search needs
+
+part-copy-bytes-start : tie.Need-part-copy-bytes-start
+part-copy-bytes-start c = search needs
+
+part-copy-bytes-end : tie.Need-part-copy-bytes-end
+part-copy-bytes-end c =
+    let n = c .before .before .before in
+    omega (arith, n .before .natural3 .ensures .0, n .natural4 .ensures .0, fine (begin n) .fine .bytes)
 
 copy-bytes-requires : tie.Need-copy-bytes-requires
 copy-bytes-requires c κs =
-    let n = c .before .before .before .before .before in (
-      omega (arith, c .before .natural4 .ensures .0, n .natural3 .ensures .0, fine (begin n) .fine .bytes),
-      bytes-room n,
-    )
+    let n = c .before .before .before .before .before in
+    let b = begin n in
+    rw (masks-part (script b) (n .before .natural3 .ensures .0) (n .natural4 .ensures .0))
+    (bytes-fit (script b) (length (b .args .commands .now)) (length (b .args .masks .now)) (b .pre))
 
 number-requires : tie.Need-number-requires
 number-requires c κs =
@@ -100,10 +85,6 @@ number-requires c κs =
 read-params-requires : tie.Need-read-params-requires
 read-params-requires c κs =
     fine (begin (c .before .before .before .before .before .before .before .before .before)) .whole
-
-count-short-requires : tie.Need-count-short-requires
-count-short-requires c κs =
-    whole (c .before .before .before .before .before .before .before .before .before .before)
 
 same-length : tie.Need-same-length
 same-length c = search needs
@@ -114,27 +95,19 @@ same-length-2 c = search needs
 returns : tie.Need-returns
 unfolding givenIn
 returns c =
-    let n = c .before .before .before .before .before .before .before .before .before .before .before in
-    let b = begin n in
-    let k = c .before .before .before .before .before in
-    let many : c .count-short .result ≡ length (givenIn (script b) .commands) =
-    c .count-short .ensures ∙ ap (λ (ps : List Piece). length (shortened ps)) (pieces-is n) ∙
-    sym (commands-length (script b)) in
-    let bytes : n .natural3 .result ≡ length (givenIn (script b) .masks) =
-    n .natural3 .ensures .0 ∙ sym (masks-length (script b) (ok b)) in
+    let k = c .before .before .before .before in
+    let m = k .before .before .before .before in
+    let n = m .before .before in
+    let s = script (begin n) in
+    let w = rw (n .before .before .before .natural .ensures .0, n .before .before .natural2 .ensures .0) at
+    (m .copy-commands .ensures) in
     record {
       answer =
-          said-is (givenIn (script b)) (c .before .before .number .ensures) (c .before .read-params .ensures) many
-          bytes;
-      words =
-          c .before .before .before .before .before .before .before .before .before .copy-commands .ensures ∙
-          ap (λ (ps : List Piece). over (map signed (shortened ps)) (b .args .commands .now)) (pieces-is n);
+          said-is (givenIn s) (c .before .number .ensures) (c .read-params .ensures) (w .0 ∙ sym (commands-length s))
+          (n .natural4 .ensures .0 ∙ sym (masks-length s (ok (begin n))));
+      words = w .1;
       bytes =
-          k .copy-bytes .ensures ∙
-          ap (λ (x : ℕ). over (take (n .natural3 .result) (drop (4 * x) (script b))) (b .args .masks .now))
-          (k .before .before .natural4 .ensures .0) ∙
-          ap (λ (x : ℕ). over (take x (drop (4 * rawAt (script b) 6) (script b))) (b .args .masks .now))
-          (n .natural3 .ensures .0);
+          rw (masks-part s (n .before .natural3 .ensures .0) (n .natural4 .ensures .0)) at (k .copy-bytes .ensures);
     }
 
 pub copied-spec : {M : Type 1} → statement M
@@ -144,13 +117,16 @@ copied-spec =
     natural-requires
     natural-requires-2
     natural-requires-3
-    copy-commands-requires
+    mul-from
     natural-requires-4
-    mul-copy-bytes
+    add-end
+    copy-commands-requires
+    sub-copy-bytes
+    part-copy-bytes-start
+    part-copy-bytes-end
     copy-bytes-requires
     number-requires
     read-params-requires
-    count-short-requires
     same-length
     same-length-2
     returns)

@@ -1,112 +1,85 @@
--- `store_masks` copies the bytes and clears the rest. The loops' invariants: after i turns the first i
--- bytes are copied; then the bytes up to i are the masks with zeros behind them. Assumes nothing.
-use mathlib.Core.Path.{_≡_, refl, ap, _∙_}
-use mathlib.Core.List.{List}
-use Prim.Native.Nat.{ℕ, _-_, _≤_}
+-- `store_masks` copies the bytes and clears the rest. The loop's invariant: the zeros that are left,
+-- placed behind what is stored, give the bytes with all their zeros. Assumes nothing.
+use mathlib.Core.Path.{_≡_, refl, sym, ap, _∙_}
+use mathlib.Core.List.{List, _++_, append-nil}
+use Prim.Native.Nat.{ℕ, suc, _+_, _-_, _*_, _≤_}
 use native.Mathlib.Omega.{arith}
-use lib.ListN.{length, set, getD}
+use lib.ListN.{length, drop, replicate, length-append, length-replicate, length-set}
+use lib.Seq.{drop-length}
 use borrow.Author.Needs.{needs}
-use Rattle.writer.proofs.Padding.{copied, copied-more, copied-length, zeroed, zeroed-none, zeroed-more}
-use Rattle.writer.proofs.Padding.{zeroed-all, zeroed-length}
+use Rattle.words.specs.Bytes.{over, placed}
+use Rattle.words.proofs.Placing.{placed-start, placed-none, placed-store, placed-behind}
+use Rattle.header.specs.Header.{padded}
+use Rattle.writer.specs.ToWrite.{paddedBytes}
 use Rattle.writer.proofs.parts.store_masks.Statement.{statement}
 use Rattle.writer.proofs.parts.store_masks.Tie as tie
 
+abbrev zeros : ℕ → List ℕ
+zeros n = replicate n 0
+
+-- zeros placed behind the bytes that were copied fill the part
+zeros-behind : (part masks : List ℕ) → length part ≡ 4 * padded (length masks) →
+    placed (over masks part) (length masks) (zeros (length part - length masks)) ≡ paddedBytes masks
+unfolding over paddedBytes
+zeros-behind part masks e =
+    let zs = zeros (length part - length masks) in
+    let none : ℕ = 0 in
+    let n : length (masks ++ zs) ≡ length part =
+    omega (arith, length-append masks zs, length-replicate (length part - length masks) none) in
+    ap (λ (l : List ℕ). placed l (length masks) zs) (sym (placed-start part masks)) ∙
+    placed-behind part 0 masks (omega arith) zs (length masks) (omega arith) ∙ placed-start part (masks ++ zs) ∙
+    ap (λ (k : ℕ). (masks ++ zs) ++ drop k part) n ∙ ap (λ (l : List ℕ). (masks ++ zs) ++ l) (drop-length part) ∙
+    append-nil (masks ++ zs) ∙ ap (λ (k : ℕ). masks ++ zeros (k - length masks)) e
+
 abbrev Inv-loop : tie.InvT-loop
-Inv-loop part₀ masks i₀ i-end part i = (part ≡ copied part₀ masks i) × ((i ≤ i-end) × (i-end ≡ length masks))
+Inv-loop part₀ masks i₀ i-end part i =
+    (placed part i (zeros (i-end - i)) ≡ paddedBytes masks) ×
+    ((length part ≡ length part₀) × ((i ≤ i-end) × (i-end ≡ length part₀)))
 
 abbrev μ-loop : tie.MeasureT-loop
 μ-loop part₀ masks i₀ i-end part i = i-end - i
 
-abbrev Inv-loop2 : tie.InvT-loop2
-Inv-loop2 part₀ masks i₀ i-end part i =
-    (part ≡ zeroed part₀ masks i) × ((length masks ≤ i) × ((i ≤ i-end) × (i-end ≡ length part₀)))
+copy-bytes-requires : tie.Need-copy-bytes-requires Inv-loop μ-loop
+copy-bytes-requires c κs = omega (arith, c .before .before .before .pre)
 
-abbrev μ-loop2 : tie.MeasureT-loop2
-μ-loop2 part₀ masks i₀ i-end part i = i-end - i
+loop-holds : tie.Need-loop-holds Inv-loop μ-loop
+loop-holds c =
+    let k = c .before .before in
+    let b = k .before .before .before .before in
+    let n : length (k .copy-bytes .last .1 .0) ≡ length (b .args .part .now) = k .copy-bytes .kept .1 .0 in (
+      rw (n, k .copy-bytes .ensures) (zeros-behind (b .args .part .now) (b .args .masks .now) (b .pre)),
+      (refl, (omega arith, refl)),
+    )
 
--- no more bytes than there is room for
-fits : (s : tie.Start Inv-loop μ-loop Inv-loop2 μ-loop2) → length (s .args .masks .now) ≤ length (s .args .part .now)
-fits s = omega (arith, s .pre)
+slice-write-part : tie.Need-slice-write-part Inv-loop μ-loop
+slice-write-part c = search needs
 
--- the part keeps its length
-same : (c : tie.At-loop Inv-loop μ-loop Inv-loop2 μ-loop2) →
-    length (c .loop .part) ≡ length (c .before .args .part .now)
-same c =
-    ap length (c .loop .inv .0) ∙
-    copied-length (c .before .args .part .now) (c .before .args .masks .now) (c .loop .i) (omega arith)
-    (omega (arith, fits (c .before)))
-
-same2 : (c : tie.At-loop2 Inv-loop μ-loop Inv-loop2 μ-loop2) →
-    length (c .loop2 .part) ≡ length (c .before .before .loop .part)
-same2 c =
-    ap length (c .loop2 .inv .0) ∙
-    zeroed-length (c .before .before .loop .part) (c .before .before .before .args .masks .now) (c .loop2 .i)
-    (omega arith) (omega arith)
-
-loop-holds : tie.Need-loop-holds Inv-loop μ-loop Inv-loop2 μ-loop2
-loop-holds c = (refl, (omega arith, omega arith))
-
-shared-slice-read-part : tie.Need-shared-slice-read-part Inv-loop μ-loop Inv-loop2 μ-loop2
-shared-slice-read-part c = search needs
-
-slice-write-part : tie.Need-slice-write-part Inv-loop μ-loop Inv-loop2 μ-loop2
-slice-write-part c = omega (arith, same (c .before .before), fits (c .before .before .before))
-
-add-i : tie.Need-add-i Inv-loop μ-loop Inv-loop2 μ-loop2
+add-i : tie.Need-add-i Inv-loop μ-loop
 add-i c = search needs
 
-loop-less : tie.Need-loop-less Inv-loop μ-loop Inv-loop2 μ-loop2
+loop-less : tie.Need-loop-less Inv-loop μ-loop
 loop-less c = search needs
 
-loop-again : tie.Need-loop-again Inv-loop μ-loop Inv-loop2 μ-loop2
+loop-again : tie.Need-loop-again Inv-loop μ-loop
 loop-again c =
-    let l = c .before .before in
-    let a = l .before .args in (
-      ap (λ (b : List ℕ). set b (l .loop .i) (getD (a .masks .now) (l .loop .i) 0)) (l .loop .inv .0) ∙
-          copied-more (a .part .now) (a .masks .now) (l .loop .i) (omega arith) (omega (arith, fits (l .before))),
-      (omega arith, omega arith),
-    )
-
-loop2-holds : tie.Need-loop2-holds Inv-loop μ-loop Inv-loop2 μ-loop2
-loop2-holds c =
-    let a = c .before .before .args in
-    let e : c .before .loop .i ≡ length (a .masks .now) = omega arith in
-    let p : c .before .loop .part ≡ copied (a .part .now) (a .masks .now) (length (a .masks .now)) =
-    c .before .loop .inv .0 ∙ ap (copied (a .part .now) (a .masks .now)) e in (
-      rw p (zeroed-none (a .part .now) (a .masks .now) (fits (c .before .before))),
-      (omega arith, (omega (arith, same (c .before), fits (c .before .before)), omega arith)),
-    )
-
-slice-write-part-2 : tie.Need-slice-write-part-2 Inv-loop μ-loop Inv-loop2 μ-loop2
-slice-write-part-2 c = omega (arith, same2 (c .before))
-
-add-i-2 : tie.Need-add-i-2 Inv-loop μ-loop Inv-loop2 μ-loop2
-add-i-2 c = omega (arith, same (c .before .before .before), c .before .before .before .before .good)
-
-loop2-less : tie.Need-loop2-less Inv-loop μ-loop Inv-loop2 μ-loop2
-loop2-less c = search needs
-
-loop2-again : tie.Need-loop2-again Inv-loop μ-loop Inv-loop2 μ-loop2
-loop2-again c =
     let l = c .before in
-    let p = l .before .before .loop .part in
-    let m = l .before .before .before .args .masks .now in (
-      ap (λ (b : List ℕ). set b (l .loop2 .i) 0) (l .loop2 .inv .0) ∙
-          zeroed-more p m (l .loop2 .i) (omega arith) (omega arith),
-      (omega arith, (omega arith, omega arith)),
+    let n = length (l .before .before .before .copy-bytes .last .1 .0) in
+    let i = l .loop .i in
+    let e : n - i ≡ suc (n - (i + 1)) = omega arith in (
+      placed-store (l .loop .part) i 0 (zeros (n - (i + 1))) (omega arith) ∙
+          ap (λ (k : ℕ). placed (l .loop .part) i (zeros k)) (sym e) ∙
+          l .loop .inv .0,
+      (simp length-set (l .loop .inv .1 .0), (omega arith, omega arith)),
     )
 
-same-length : tie.Need-same-length Inv-loop μ-loop Inv-loop2 μ-loop2
-same-length c = same2 (c .before) ∙ same (c .before .before .before)
+same-length : tie.Need-same-length Inv-loop μ-loop
+same-length c = search needs
 
-returns : tie.Need-returns Inv-loop μ-loop Inv-loop2 μ-loop2
+returns : tie.Need-returns Inv-loop μ-loop
 returns c =
     let l = c .before in
-    let p = l .before .before .loop .part in
-    let m = l .before .before .before .args .masks .now in
-    let e : l .loop2 .i ≡ length p = omega arith in
-    l .loop2 .inv .0 ∙ ap (zeroed p m) e ∙
-    zeroed-all p m (same (l .before .before) ∙ l .before .before .before .pre)
+    let e : length (l .before .before .before .copy-bytes .last .1 .0) - l .loop .i ≡ 0 = omega arith in
+    sym (placed-none (l .loop .part) (l .loop .i)) ∙ (rw e at (l .loop .inv .0))
 
 pub store-masks-spec : {M : Type 1} → statement M
 store-masks-spec =
@@ -114,18 +87,11 @@ store-masks-spec =
     (tie.spec
     Inv-loop
     μ-loop
-    Inv-loop2
-    μ-loop2
+    copy-bytes-requires
     loop-holds
-    shared-slice-read-part
     slice-write-part
     add-i
     loop-less
     loop-again
-    loop2-holds
-    slice-write-part-2
-    add-i-2
-    loop2-less
-    loop2-again
     same-length
     returns)

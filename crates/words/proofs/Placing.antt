@@ -1,14 +1,13 @@
--- Laws of entries placed among others: none, one more by a store, and those behind others. Assumes
--- nothing.
+-- Laws of entries placed among others: none, one more by a store, and those behind others; no entry
+-- is lost. Assumes nothing.
 use mathlib.Core.Path.{_≡_, sym, ap, _∙_}
 use mathlib.Core.List.{List, [], _∷_, _++_, append-assoc}
 use Prim.Native.Nat.{ℕ, suc, _+_, _≤_, _<_}
 use native.Mathlib.Numerals.{add-one}
 use native.Mathlib.Omega.{arith}
-use lib.ListN.{length, take, drop, set, length-append, take-append-drop}
+use lib.ListN.{length, take, drop, set, length-append, length-drop, take-append-drop}
 use lib.Seq.{length-take-le, take-suc-set, drop-set-lt, take-at, drop-at, drop-drop}
-use Rattle.writer.specs.Refusals.{over}
-use Rattle.readback.specs.ReadBack.{placed}
+use Rattle.words.specs.Bytes.{over, placed}
 
 module _ {A : Type 0} (lent : List A) where
   -- from the start on they are written over what is lent
@@ -40,6 +39,14 @@ module _ {A : Type 0} (lent : List A) where
     -- what is before them and they are as many as where they end
     front : length (take i lent ++ xs) ≡ i + length xs
     front = length-append (take i lent) xs ∙ ap (λ (n : ℕ). n + length xs) (length-take-le i lent (omega arith))
+
+    -- as many as there were
+    pub placed-length : length (placed lent i xs) ≡ length lent
+    unfolding placed
+    placed-length =
+        ap length (sym (append-assoc (take i lent) xs (drop (i + length xs) lent))) ∙
+        length-append (take i lent ++ xs) (drop (i + length xs) lent) ∙
+        omega (arith, front, length-drop (i + length xs) lent)
 
     -- some behind others
     pub placed-behind : (ys : List A) (j : ℕ) → j ≡ i + length xs →
