@@ -79,8 +79,8 @@ module _ (s masks zeros : List ℕ) (from : ℕ) (there : drop from s ≡ masks 
   pieces-call n place at left (p ∷ ps) c h =
       let t = bytesTaken p in
       let l = taken-left t left (c .1 .0) in
-      let behind = pieces-call (n + t) (place + length (pieceWords (started n p))) (at + length (pieceWords p)) (left - t)
-      ps (c .1 .1) (omega arith) in
+      let behind = pieces-call (n + t) (place + length (pieceWords (started n p))) (at + length (pieceWords p))
+      (left - t) ps (c .1 .1) (omega arith) in
       rw (piece-call n left p (c .1 .0) h)
       (ap (λ (cs : List Call). callGiven (drop n masks) p ∷ cs)
       (behind ∙ ap (λ (l : List ℕ). callsGiven l ps) (sym (drop-drop t n masks))))
