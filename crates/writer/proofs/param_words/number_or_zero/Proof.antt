@@ -4,7 +4,7 @@ use mir.Syntax.{w32}
 use mir.Val.{SFits}
 use mir.Facts.{toZ-ofZ}
 use borrow.Author.Needs.{needs}
-use Rattle.fixed.specs.Integers.{bitsOf, signed, wrap32}
+use Rattle.fixed.specs.Integers.{wrap32}
 use Rattle.fixed.specs.Fixed.{fromBits}
 use Rattle.fixed.proofs.Bits.{wrap-id}
 use Rattle.writer.proofs.param_words.number_or_zero.Statement.{statement}

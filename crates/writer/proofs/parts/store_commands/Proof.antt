@@ -2,7 +2,7 @@
 -- left has no fault, and laid behind what is stored it is the whole. The measure is the words that
 -- are left. Assumes nothing.
 use mathlib.Core.Path.{_≡_, sym, ap, _∙_}
-use mathlib.Core.List.{List, [], _∷_, _++_, map}
+use mathlib.Core.List.{List, map}
 use Prim.Native.Nat.{ℕ, _+_, _*_, _-_, _≤_, _<_}
 use native.Mathlib.Omega.{arith}
 use lib.ListN.{length, getD, length-map, length-append}
@@ -14,7 +14,7 @@ use Rattle.commands.specs.Commands.{operandsOf}
 use Rattle.writer.specs.Pieces.{pieceWords, givenOperands, pieceAt, bytesTaken, started}
 use Rattle.writer.specs.ToWrite.{commandWords}
 use Rattle.writer.proofs.PieceFaults.{nextPiece}
-use Rattle.writer.proofs.Walking.{Sound, sound-first, sound-there, sound-taken, sound-next, left, left-all}
+use Rattle.writer.proofs.Walking.{Sound, sound-first, sound-there, left, left-all}
 use Rattle.writer.proofs.Walking.{left-none, left-first, stored-words, turned}
 use Rattle.writer.proofs.parts.store_commands.Statement.{statement}
 use Rattle.writer.proofs.parts.store_commands.Tie as tie

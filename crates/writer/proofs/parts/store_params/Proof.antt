@@ -1,15 +1,9 @@
 -- `store_params` lays the numbers and the four lists behind one another. Assumes nothing.
-use mathlib.Core.Path.{_≡_, sym, ap, _∙_}
-use mathlib.Core.List.{List, _++_, append-assoc}
-use Prim.Native.Nat.{ℕ, _+_, _*_, _≤_}
+use Prim.Native.Nat.{_+_, _*_, _≤_}
 use native.Mathlib.Omega.{arith}
 use lib.ListN.{length, length-map}
 use borrow.Author.Needs.{needs}
 use Rattle.zones.specs.declared.state.HintParams.{HintParams}
-use Rattle.zones.specs.Zones.{listOf}
-use Rattle.words.specs.Bytes.{laid}
-use Rattle.words.proofs.Laid.{laid-behind}
-use Rattle.writer.specs.ToWrite.{pairWords, numberWords, paramWords}
 use Rattle.writer.proofs.Laying.{Sevens, params-length, params-laid}
 use Rattle.writer.proofs.parts.store_params.Statement.{statement}
 use Rattle.writer.proofs.parts.store_params.Tie as tie

@@ -2,16 +2,16 @@
 -- Assumes nothing.
 use mathlib.Core.Path.{_≡_, sym, ap, _∙_}
 use mathlib.Core.Bool.{true, false}
-use mathlib.Core.List.{List, [], _∷_, _++_, map}
+use mathlib.Core.List.{List, [], _∷_, map}
 use Prim.Native.Nat.{ℕ, _+_, _*_, _-_, _≤_, _<_}
 use native.Mathlib.Omega.{arith}
-use lib.ListN.{length, take, drop, getD, length-map, length-take, length-drop}
+use lib.ListN.{length, take, drop, getD, length-map}
 use borrow.Author.Needs.{needs}
 use Rattle.fixed.specs.Integers.{bitsOf}
 use Rattle.words.specs.Bytes.{laid}
 use Rattle.words.proofs.Laid.{laid-behind}
 use Rattle.commands.specs.Commands.{operandsOf}
-use Rattle.writer.specs.Pieces.{isMask, givenOperands, pieceAt, pieceWords, started}
+use Rattle.writer.specs.Pieces.{isMask, pieceAt, pieceWords, started}
 use Rattle.writer.proofs.Cutting.{mask-stored, other-stored, bits-part, mask-operands, other-operands}
 use Rattle.writer.proofs.parts.store_piece.Statement.{statement}
 use Rattle.writer.proofs.parts.store_piece.Tie as tie

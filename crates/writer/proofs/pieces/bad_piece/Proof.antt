@@ -1,10 +1,8 @@
 -- `bad_piece` tests the kind, and the words behind it. Assumes nothing.
-use mathlib.Core.Path.{_≡_, sym, ap, _∙_}
-use mathlib.Core.List.{List, map}
-use Prim.Native.Nat.{ℕ, _+_}
+use mathlib.Core.Path.{_≡_, sym}
+use mathlib.Core.List.{map}
 use native.Mathlib.Omega.{arith}
-use lib.Dec.{ltb}
-use lib.ListN.{length, getD, length-map}
+use lib.ListN.{length, length-map}
 use borrow.Author.Needs.{needs}
 use Rattle.fixed.specs.Integers.{bitsOf}
 use Rattle.header.proofs.Tests.{low, high, inside}

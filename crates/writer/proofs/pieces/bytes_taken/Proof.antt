@@ -1,15 +1,15 @@
 -- `bytes_taken` gives the word behind a mask's kind, and 0 for what is no mask or has no such word.
 -- Assumes nothing.
 use mathlib.Core.Path.{_≡_, sym, ap, _∙_}
-use mathlib.Core.Bool.{Bool, true, false, cond, not}
-use mathlib.Core.List.{List, map}
-use Prim.Native.Nat.{ℕ, _+_, _≤_, _<_}
+use mathlib.Core.Bool.{true}
+use mathlib.Core.List.{map}
+use Prim.Native.Nat.{_+_}
 use native.Mathlib.Omega.{arith}
-use lib.ListN.{length, getD, length-map, List·getD-eq-default}
+use lib.ListN.{getD, length-map, List·getD-eq-default}
 use borrow.Author.Needs.{needs}
 use borrow.Author.Tests.{not-true, not-false}
 use Rattle.fixed.specs.Integers.{bitsOf}
-use Rattle.writer.specs.Pieces.{isMask, pieceAt, bytesTaken}
+use Rattle.writer.specs.Pieces.{isMask}
 use Rattle.writer.proofs.Cutting.{mask-takes, others-take}
 use Rattle.writer.proofs.pieces.bytes_taken.Statement.{statement}
 use Rattle.writer.proofs.pieces.bytes_taken.Tie as tie

@@ -1,6 +1,6 @@
 -- `count_masks` counts the masks among the pieces. The loop's invariant: those before this word and
 -- those from it on are all. The measure is the words that are left. Assumes nothing.
-use mathlib.Core.Path.{_≡_, refl, sym, ap, _∙_}
+use mathlib.Core.Path.{_≡_, ap, _∙_}
 use mathlib.Core.List.{List, map}
 use Prim.Native.Nat.{ℕ, _+_, _-_, _≤_, _<_}
 use native.Mathlib.Omega.{arith}

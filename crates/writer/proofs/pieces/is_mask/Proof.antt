@@ -1,5 +1,4 @@
 -- `is_mask` tests the two kinds of masks. Assumes nothing.
-use mathlib.Core.Path.{sym, ap}
 use borrow.Author.Tests.{eq-eqb, ne-eqb}
 use Rattle.writer.proofs.pieces.is_mask.Statement.{statement}
 use Rattle.writer.proofs.pieces.is_mask.Tie as tie

@@ -1,5 +1,5 @@
 -- `check_given` makes the tests of scale and counts, then those of the commands. Assumes nothing.
-use mathlib.Core.Path.{_≡_, sym, ap, _∙_}
+use mathlib.Core.Path.{sym, ap, _∙_}
 use native.Mathlib.Omega.{arith}
 use borrow.Author.Needs.{needs}
 use Rattle.words.proofs.Rows.{found, onward}

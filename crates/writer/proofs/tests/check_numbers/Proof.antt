@@ -1,6 +1,6 @@
 -- `check_numbers` makes the tests of `givenRows` in their order: one that holds gives the answer, and
 -- one that does not is passed. Assumes nothing.
-use mathlib.Core.Path.{_≡_, sym, ap, _∙_}
+use mathlib.Core.Path.{_≡_, sym, _∙_}
 use mathlib.Core.Bool.{true, false}
 use lib.Dec.{ltb}
 use lib.IntN.{pos}

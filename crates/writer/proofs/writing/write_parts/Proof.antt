@@ -1,14 +1,11 @@
 -- `write_parts` stores the parts one behind the other, which is the script. Assumes nothing.
-use mathlib.Core.Path.{_≡_, refl, sym, ap, _∙_}
-use mathlib.Core.List.{List, _++_}
-use Prim.Native.Nat.{ℕ, _+_, _-_, _*_, _≤_}
+use mathlib.Core.Path.{_≡_}
+use Prim.Native.Nat.{_+_, _-_, _*_, _≤_}
 use native.Mathlib.Omega.{arith}
 use lib.ListN.{length}
 use borrow.Author.Needs.{needs}
-use Rattle.words.specs.Bytes.{laid}
 use Rattle.header.specs.Header.{padded}
-use Rattle.writer.specs.ToWrite.{Given, given, paramWords, commandWords, headerWords, scriptFor}
-use Rattle.writer.specs.Refusals.{Writable}
+use Rattle.writer.specs.ToWrite.{Given, given, paramWords, commandWords}
 use Rattle.writer.proofs.Sizes.{commands-length, script-length, parts-over}
 use Rattle.writer.proofs.writing.write_parts.Statement.{statement}
 use Rattle.writer.proofs.writing.write_parts.Tie as tie

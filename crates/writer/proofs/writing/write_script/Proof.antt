@@ -1,6 +1,6 @@
 -- `write_script` gives the first refusal, or writes the script where there is none. Assumes nothing.
 use mathlib.Core.Path.{_≡_, sym, ap, _∙_}
-use mathlib.Core.Bool.{Bool, true, false, cond}
+use mathlib.Core.Bool.{Bool, false, cond}
 use Prim.Native.Nat.{ℕ, _+_, _*_, _≤_}
 use native.Mathlib.Omega.{arith}
 use lib.Dec.{ltb}
@@ -10,9 +10,8 @@ use borrow.Author.Tests.{ltb-false}
 use Rattle.words.specs.Rows.{firstOr}
 use Rattle.header.specs.Header.{padded}
 use Rattle.header.proofs.Tests.{both-false}
-use Rattle.writer.specs.declared.write_answer.WriteAnswer.{WriteAnswer}
 use Rattle.writer.specs.declared.write_answer.WriteAnswer.the-variants.{Written, ScriptRoom}
-use Rattle.writer.specs.ToWrite.{Given, given, paramWords, commandWords, scriptFor}
+use Rattle.writer.specs.ToWrite.{Given, given, scriptFor}
 use Rattle.writer.specs.Refusals.{writeNumber, roomRow, writeAnswer}
 use Rattle.writer.proofs.Sizes.{commands-length, script-length}
 use Rattle.writer.proofs.Answering.{before, before-fine, fine-pieces, fine-params, refused-before, by-room}
