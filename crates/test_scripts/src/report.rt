@@ -1,4 +1,5 @@
 // What the program says.
+use crate::again_tally::AgainTally;
 use crate::cases::Judged;
 use crate::cases::Seen;
 use crate::cases::case;
@@ -10,13 +11,14 @@ use libc::STDOUT_FILENO;
 use std::num::wrapping_add_usize;
 use words::natural;
 
-// How many cases were run, how many of them differ, how many are marked, and how many have each
-// number.
+// How many cases were run, how many of them differ, how many are marked, how many have each number,
+// and what their scripts become that are written again.
 struct Tally {
     run: usize,
     differ: usize,
     marked: usize,
     numbers: [usize; 7],
+    again: AgainTally,
 }
 
 impl Tally {
@@ -26,6 +28,7 @@ impl Tally {
             differ: 0,
             marked: 0,
             numbers: [0; 7],
+            again: AgainTally::none(),
         }
     }
 
@@ -41,6 +44,9 @@ impl Tally {
             let before = tally.numbers[number];
             tally.numbers[number] = wrapping_add_usize(before, 1);
         }
+        let again = judged.again;
+        let written = tally.again.with(again);
+        tally.again = written;
         let verdict = judged.verdict;
         let Verdict::Same = verdict else {
             tally.differ = wrapping_add_usize(tally.differ, 1);
@@ -52,19 +58,21 @@ impl Tally {
 
 // The tables of scripts.
 pub(crate) fn scripts(file: i32) {
-    table(b"the whole case", file);
-    table(b"lengths", file);
-    table(b"header", file);
-    table(b"padding", file);
-    table(b"parameters", file);
-    table(b"kinds", file);
-    table(b"operands cut off", file);
-    table(b"masks", file);
-    table(b"two faults", file);
-    table(b"rooms", file);
-    table(b"glyphs", file);
-    table(b"damaged copies", file);
+    let mut again = AgainTally::none();
+    again = with_table(again, b"the whole case", file);
+    again = with_table(again, b"lengths", file);
+    again = with_table(again, b"header", file);
+    again = with_table(again, b"padding", file);
+    again = with_table(again, b"parameters", file);
+    again = with_table(again, b"kinds", file);
+    again = with_table(again, b"operands cut off", file);
+    again = with_table(again, b"masks", file);
+    again = with_table(again, b"two faults", file);
+    again = with_table(again, b"rooms", file);
+    again = with_table(again, b"glyphs", file);
+    again = with_table(again, b"damaged copies", file);
     end(file);
+    again.say();
 }
 
 // The sample, which is one table.
@@ -72,6 +80,14 @@ pub(crate) fn sample(file: i32) {
     let tally = table(b"sample", file);
     end(file);
     totals(tally);
+    let again = tally.again;
+    again.say();
+}
+
+// A table more, and what its scripts become that are written again.
+fn with_table(again: AgainTally, name: &[u8], file: i32) -> AgainTally {
+    let tally = table(name, file);
+    again.and(tally.again)
 }
 
 // Runs as many cases as the next word says, and says how many differ.
