@@ -19,7 +19,7 @@ use Rattle.readback.specs.ReadBack.{givenIn, readRows, readBy, readBackOf, Read
 use Rattle.readback.proofs.ReadRooms.{accepted}
 use Rattle.test_scripts.specs.declared.again.Again.{Again}
 use Rattle.test_scripts.specs.declared.again.Again.the-variants.{NotRead}
-use Rattle.test_scripts.specs.Again.{writtenAs, againOf}
+use Rattle.test_scripts.specs.Again.{writtenAs, writeAgainOf}
 
 -- ---- what is read back lies within its buffers
 within : {A : Type 0} (xs lent : List A) → length xs ≤ length (over xs lent)
@@ -50,27 +50,27 @@ module _ (s : List ℕ) (cs : List ℤ) (ms : List ℕ) where
     bytes-within = rw (r .answer, r .bytes) (read-within .1)
 
     -- ---- what the reader refuses, and what the writer is given
-    pub not-read : (written : List ℕ) → 0 < numberOf (said .answer) → NotRead ≡ againOf s cs ms written
-    unfolding againOf
+    pub not-read : (written : List ℕ) → 0 < numberOf (said .answer) → NotRead ≡ writeAgainOf s cs ms written
+    unfolding writeAgainOf
     not-read written h = rw (sym (r .answer), refused (said .answer) h)
 
     pub read-and-written : (written : List ℕ) {left : List ℕ} {answer : WriteAnswer} {again : Again} →
         numberOf (said .answer) ≡ 0 →
         Wrote (writeOf (given (said .scale) (said .params) (take (said .commands) commands) (take (said .masks) masks))
-        written) answer left → again ≡ writtenAs s answer left → again ≡ againOf s cs ms written
-    unfolding againOf
+        written) answer left → again ≡ writtenAs s answer left → again ≡ writeAgainOf s cs ms written
+    unfolding writeAgainOf
     read-and-written written h w e =
         rw (sym (r .answer), sym (r .words), sym (r .bytes), taken (said .answer) h, sym (w .answer), sym (w .memory)) e
 
   -- ---- the reader refuses more bytes than a script may have
-  rows-refuse : (written : List ℕ) → refuses answered ≡ true → NotRead ≡ againOf s cs ms written
-  unfolding againOf readBackOf
+  rows-refuse : (written : List ℕ) → refuses answered ≡ true → NotRead ≡ writeAgainOf s cs ms written
+  unfolding writeAgainOf readBackOf
   rows-refuse written e = rw (e, e)
 
-  pub too-long : (written : List ℕ) → 65536 < length s → NotRead ≡ againOf s cs ms written
+  pub too-long : (written : List ℕ) → 65536 < length s → NotRead ≡ writeAgainOf s cs ms written
   too-long written h = by (refuses answered) refl
     where
-      by : (b : Bool) → refuses answered ≡ b → NotRead ≡ againOf s cs ms written
+      by : (b : Bool) → refuses answered ≡ b → NotRead ≡ writeAgainOf s cs ms written
       by true e = rows-refuse written e
       by false e =
           absurd (omega (arith, passed s (accepted s (length cs) (length ms) (not-refused answered e)) .fine .short))

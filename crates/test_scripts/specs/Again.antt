@@ -38,5 +38,5 @@ afterReading s r written =
     (writtenAs s (writeOf (givenBack r) written .answer) (writeOf (givenBack r) written .left))
 
 -- a script, buffers for command words and mask bytes, and one to write into
-unfoldable pub againOf : List ℕ → List ℤ → List ℕ → List ℕ → Again
-againOf s commands masks written = afterReading s (readBackOf s commands masks) written
+unfoldable pub writeAgainOf : List ℕ → List ℤ → List ℕ → List ℕ → Again
+writeAgainOf s commands masks written = afterReading s (readBackOf s commands masks) written

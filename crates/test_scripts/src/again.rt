@@ -5,7 +5,7 @@ use writer::write_script;
 ghost use mathlib.Core.Path.{_≡_};
 ghost use Prim.Native.Nat.{_≤_};
 ghost use lib.ListN.{length, take};
-ghost use Rattle.test_scripts.specs.Again.{sameBytes, writtenAs, againOf};
+ghost use Rattle.test_scripts.specs.Again.{sameBytes, writtenAs, writeAgainOf};
 
 // What becomes of a script.
 pub(crate) enum Again {
@@ -22,7 +22,7 @@ const HELD_WORDS: usize = 16400;
 
 const HELD_BYTES: usize = 65600;
 
-// Two lists of bytes, with their lengths.
+// Whether two buffers hold the same bytes, and as many.
 fn same_bytes(a: &[u8], b: &[u8]) -> bool
     ensures { λ r. ⌜ r ≡ sameBytes (now (a .entry)) (now (b .entry)) ⌝ }
 {
@@ -55,7 +55,7 @@ fn compared(script: &[u8], answer: WriteAnswer, left: &[u8]) -> Again
 
 // Reads a script back into two lent buffers, and writes what they hold into a third.
 fn write_again(script: &[u8], commands: &mut [i32], masks: &mut [u8], written: &mut [u8]) -> Again
-    ensures { λ r. ⌜ r ≡ againOf (now (script .entry)) (now (commands .entry)) (now (masks .entry))
+    ensures { λ r. ⌜ r ≡ writeAgainOf (now (script .entry)) (now (commands .entry)) (now (masks .entry))
         (now (written .entry)) ⌝ }
 {
     let back = read_back(script, commands, masks);
@@ -75,11 +75,10 @@ fn write_again(script: &[u8], commands: &mut [i32], masks: &mut [u8], written: &
     compared(script, said, written)
 }
 
-// Lends as many bytes to write as the script has. The reader refuses one that has more than are
-// held.
-fn lend_its_length(script: &[u8], commands: &mut [i32], masks: &mut [u8], held: &mut [u8]) -> Again
+// Lends as many of the held bytes as the script has. The reader refuses one that has more.
+fn again_sized(script: &[u8], commands: &mut [i32], masks: &mut [u8], held: &mut [u8]) -> Again
     requires { ⌜ 65536 ≤ length (now held) ⌝ }
-    ensures { λ r. ⌜ r ≡ againOf (now (script .entry)) (now (commands .entry)) (now (masks .entry))
+    ensures { λ r. ⌜ r ≡ writeAgainOf (now (script .entry)) (now (commands .entry)) (now (masks .entry))
         (take (length (now (script .entry))) (now (held .entry))) ⌝ }
 {
     let size = script.len();
@@ -89,9 +88,9 @@ fn lend_its_length(script: &[u8], commands: &mut [i32], masks: &mut [u8], held: 
     write_again(script, commands, masks, &mut held[..size])
 }
 
-pub(crate) fn again_of(script: &[u8]) -> Again {
+pub(crate) fn script_again(script: &[u8]) -> Again {
     let mut commands = [0i32; HELD_WORDS];
     let mut masks = [0u8; HELD_BYTES];
     let mut held = [0u8; HELD_BYTES];
-    lend_its_length(script, &mut commands, &mut masks, &mut held)
+    again_sized(script, &mut commands, &mut masks, &mut held)
 }

@@ -1,4 +1,4 @@
-// How many scripts were written again, and as what.
+// What becomes of scripts, counted. model/tables/scripts_again.py gives the same counts.
 use crate::again::Again;
 use io::print_decimal;
 use io::write_all;

@@ -1,6 +1,6 @@
 // One case.
 use crate::again::Again;
-use crate::again::again_of;
+use crate::again::script_again;
 use crate::judging::Verdict;
 use crate::judging::judged;
 use words::natural;
@@ -13,8 +13,7 @@ pub(crate) enum Seen {
     Run(Judged),
 }
 
-// A case's number and mark, as stored, how its run differs, and what its script becomes that is
-// written again.
+// A case's number and mark, as stored, how its run differs, and what becomes of its script.
 pub(crate) struct Judged {
     pub number: usize,
     pub mark: usize,
@@ -74,7 +73,7 @@ fn read_rest(
         return Seen::Cut;
     }
     let verdict = judged(head, &padded[..bytes], stored, out);
-    let again = again_of(&padded[..bytes]);
+    let again = script_again(&padded[..bytes]);
     Seen::Run(Judged {
         number: natural(head, 4),
         mark: natural(head, 3),

@@ -12,7 +12,7 @@ use std::num::wrapping_add_usize;
 use words::natural;
 
 // How many cases were run, how many of them differ, how many are marked, how many have each number,
-// and what their scripts become that are written again.
+// and what becomes of their scripts.
 struct Tally {
     run: usize,
     differ: usize,
@@ -84,7 +84,7 @@ pub(crate) fn sample(file: i32) {
     again.say();
 }
 
-// A table more, and what its scripts become that are written again.
+// Runs a table more, and counts what becomes of its scripts too.
 fn with_table(again: AgainTally, name: &[u8], file: i32) -> AgainTally {
     let tally = table(name, file);
     again.and(tally.again)

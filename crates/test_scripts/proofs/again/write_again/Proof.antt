@@ -1,16 +1,12 @@
 -- `write_again` meets its contract: what the reader leaves is what the writer takes, and what that
 -- leaves is compared. Assumes nothing.
-use mathlib.Core.Path.{_≡_, sym, _∙_}
-use Prim.Native.Nat.{_≤_}
+use mathlib.Core.Path.{sym, _∙_}
 use native.Mathlib.Omega.{arith}
 use lib.Seq.{length-take-le}
 use borrow.Author.Needs.{needs}
 use Rattle.test_scripts.proofs.Outcomes.{words-within, bytes-within, not-read, read-and-written}
 use Rattle.test_scripts.proofs.again.write_again.Statement.{statement}
 use Rattle.test_scripts.proofs.again.write_again.Tie as tie
-
-abbrev begin : tie.After-read-back → tie.Start
-begin c = c .before .before .before .before .before .before
 
 read-back-requires : tie.Need-read-back-requires
 read-back-requires c κs = search needs

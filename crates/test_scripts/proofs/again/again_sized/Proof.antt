@@ -1,12 +1,12 @@
--- `lend_its_length` meets its contract: the part that is lent has the script's length, and a script
+-- `again_sized` meets its contract: the part that is lent has the script's length, and a script
 -- that is too long is not read. Assumes nothing.
 use mathlib.Core.Path.{sym}
 use native.Mathlib.Omega.{arith}
 use lib.Seq.{length-take-le}
 use borrow.Author.Needs.{needs}
 use Rattle.test_scripts.proofs.Outcomes.{too-long}
-use Rattle.test_scripts.proofs.again.lend_its_length.Statement.{statement}
-use Rattle.test_scripts.proofs.again.lend_its_length.Tie as tie
+use Rattle.test_scripts.proofs.again.again_sized.Statement.{statement}
+use Rattle.test_scripts.proofs.again.again_sized.Tie as tie
 
 returns : tie.Need-returns
 returns c = too-long _ _ _ _ (omega arith)
@@ -32,8 +32,8 @@ same-length-3 c = search needs
 returns-2 : tie.Need-returns-2
 returns-2 c = search needs
 
-pub lend-its-length-spec : {M : Type 1} → statement M
-lend-its-length-spec =
+pub again-sized-spec : {M : Type 1} → statement M
+again-sized-spec =
     tie.close
     (tie.spec
     returns
