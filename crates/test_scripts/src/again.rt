@@ -4,7 +4,8 @@ use writer::WriteAnswer;
 use writer::write_script;
 ghost use mathlib.Core.Path.{_≡_};
 ghost use Prim.Native.Nat.{_≤_};
-ghost use lib.ListN.{length, take};
+ghost use lib.IntN.{pos};
+ghost use lib.ListN.{length, take, replicate};
 ghost use Rattle.test_scripts.specs.Again.{sameBytes, writtenAs, writeAgainOf};
 
 // What becomes of a script.
@@ -88,7 +89,11 @@ fn again_sized(script: &[u8], commands: &mut [i32], masks: &mut [u8], held: &mut
     write_again(script, commands, masks, &mut held[..size])
 }
 
-pub(crate) fn script_again(script: &[u8]) -> Again {
+// What becomes of a script, in buffers that hold zeros.
+pub(crate) fn script_again(script: &[u8]) -> Again
+    ensures { λ r. ⌜ r ≡ writeAgainOf (now (script .entry)) (replicate 16400 (pos 0)) (replicate 65600 0)
+        (take (length (now (script .entry))) (replicate 65600 0)) ⌝ }
+{
     let mut commands = [0i32; HELD_WORDS];
     let mut masks = [0u8; HELD_BYTES];
     let mut held = [0u8; HELD_BYTES];
