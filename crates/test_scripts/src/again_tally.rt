@@ -34,16 +34,6 @@ impl AgainTally {
         tally
     }
 
-    // Those of another tally too.
-    pub(crate) fn and(self, more: AgainTally) -> AgainTally {
-        AgainTally {
-            same_bytes: wrapping_add_usize(self.same_bytes, more.same_bytes),
-            other_bytes: wrapping_add_usize(self.other_bytes, more.other_bytes),
-            refused: wrapping_add_usize(self.refused, more.refused),
-            not_read: wrapping_add_usize(self.not_read, more.not_read),
-        }
-    }
-
     pub(crate) fn say(self) {
         write_all(STDOUT_FILENO, b"written again: ");
         print_decimal(STDOUT_FILENO, self.same_bytes as u64);

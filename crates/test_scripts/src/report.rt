@@ -11,8 +11,8 @@ use libc::STDOUT_FILENO;
 use std::num::wrapping_add_usize;
 use words::natural;
 
-// How many cases were run, how many of them differ, how many are marked, how many have each number,
-// and what becomes of their scripts.
+// How many cases of a table were run, how many of them differ, how many are marked, how many have
+// each number; and what becomes of scripts, those of the tables before it too.
 struct Tally {
     run: usize,
     differ: usize,
@@ -22,13 +22,14 @@ struct Tally {
 }
 
 impl Tally {
-    fn none() -> Tally {
+    // No case yet, after scripts that are counted so.
+    fn after(again: AgainTally) -> Tally {
         Tally {
             run: 0,
             differ: 0,
             marked: 0,
             numbers: [0; 7],
-            again: AgainTally::none(),
+            again,
         }
     }
 
@@ -58,43 +59,37 @@ impl Tally {
 
 // The tables of scripts.
 pub(crate) fn scripts(file: i32) {
-    let mut again = AgainTally::none();
-    again = with_table(again, b"the whole case", file);
-    again = with_table(again, b"lengths", file);
-    again = with_table(again, b"header", file);
-    again = with_table(again, b"padding", file);
-    again = with_table(again, b"parameters", file);
-    again = with_table(again, b"kinds", file);
-    again = with_table(again, b"operands cut off", file);
-    again = with_table(again, b"masks", file);
-    again = with_table(again, b"two faults", file);
-    again = with_table(again, b"rooms", file);
-    again = with_table(again, b"glyphs", file);
-    again = with_table(again, b"damaged copies", file);
+    let mut tally = table(b"the whole case", file, AgainTally::none());
+    tally = table(b"lengths", file, tally.again);
+    tally = table(b"header", file, tally.again);
+    tally = table(b"padding", file, tally.again);
+    tally = table(b"parameters", file, tally.again);
+    tally = table(b"kinds", file, tally.again);
+    tally = table(b"operands cut off", file, tally.again);
+    tally = table(b"masks", file, tally.again);
+    tally = table(b"two faults", file, tally.again);
+    tally = table(b"rooms", file, tally.again);
+    tally = table(b"glyphs", file, tally.again);
+    tally = table(b"damaged copies", file, tally.again);
     end(file);
+    let again = tally.again;
     again.say();
 }
 
 // The sample, which is one table.
 pub(crate) fn sample(file: i32) {
-    let tally = table(b"sample", file);
+    let tally = table(b"sample", file, AgainTally::none());
     end(file);
     totals(tally);
     let again = tally.again;
     again.say();
 }
 
-// Runs a table more, and counts what becomes of its scripts too.
-fn with_table(again: AgainTally, name: &[u8], file: i32) -> AgainTally {
-    let tally = table(name, file);
-    again.and(tally.again)
-}
-
 // Runs as many cases as the next word says, and says how many differ.
-fn table(name: &[u8], file: i32) -> Tally {
+fn table(name: &[u8], file: i32, again: AgainTally) -> Tally {
     let mut word = [0u8; 4];
     read_full(file, &mut word);
-    let tally = run(file, natural(&word, 0));
+    let tally = run(file, natural(&word, 0), again);
     test_tables::counts(name, tally.run, tally.differ);
     tally
 }
@@ -108,8 +103,8 @@ fn end(file: i32) {
 }
 
 // Runs so many cases, or those before the first that cannot be read.
-fn run(file: i32, count: usize) -> Tally {
-    let mut tally = Tally::none();
+fn run(file: i32, count: usize, again: AgainTally) -> Tally {
+    let mut tally = Tally::after(again);
     for i in 0..count {
         let seen = case(file);
         let Seen::Run(judged) = seen else {
