@@ -9,8 +9,10 @@ Two commands, from the repository's root:
 Both first hold the model to the figures that 01 marks and to its whole case (tables/marked.py), to
 what 02 says of scripts that are written and read back (tables/writer_laws.py), and to all that is
 worked by hand; where it differs nothing is written. The check also holds the counts of rows in each
-crate's `stdout` to the tables; the rest of such a text is its program's. Where each table goes
-stands in __main__.py and nowhere else. Python 3.9 or later will do, with nothing beside it.
+crate's `stdout` to the tables, and that of `test_scripts` to what the model makes of its scripts
+when they are written again (tables/scripts_again.py); the rest of such a text is its program's.
+Where each table goes stands in __main__.py and nowhere else. Python 3.9 or later will do, with
+nothing beside it.
 
 The model, each part over those before it:
 

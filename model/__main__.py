@@ -6,7 +6,7 @@ from dataclasses import dataclass
 from pathlib import Path
 from types import ModuleType
 
-from .tables import calls, figures, maps, marked, scripts, writer, writer_laws
+from .tables import calls, figures, maps, marked, scripts, scripts_again, writer, writer_laws
 from .tables.form import Disagreement, file_of
 
 ROOT = Path(__file__).resolve().parent.parent
@@ -32,6 +32,8 @@ STORED = [
     Stored(scripts, "test_scripts", "data/scripts.bin"),
     Stored(writer, "test_writer", "data/writer.bin"),
 ]
+# The files whose scripts a crate writes again, in the order of its lines on them.
+SCRIPTS_CRATE, SCRIPTS_FILES = ROOT / "crates" / "test_scripts", ["data/scripts.bin", "data/sample.bin"]
 
 
 def say(path, verdict):
@@ -81,6 +83,19 @@ def check(stored, tables):
     return same and counted
 
 
+def counts_again():
+    """Whether `stdout` says what becomes of scripts that are written again."""
+    path = SCRIPTS_CRATE / "stdout"
+    try:
+        lines = [scripts_again.line((SCRIPTS_CRATE / file).read_bytes()) for file in SCRIPTS_FILES]
+    except Disagreement as found:
+        say(path, f"can't be compared: {found}")
+        return False
+    same = re.findall("^written again: .*", path.read_text(), re.MULTILINE) == lines
+    say(path, f"{'same' if same else 'differs in its'} counts of scripts written again")
+    return same
+
+
 def write(stored, tables):
     path = stored.path(stored.file)
     if is_stored(stored, tables):
@@ -98,7 +113,8 @@ def main(arguments):
     fine = all([holds_to(what, figures) for what, figures in HELD_TO.items()])
     made = [(stored, tables_of(stored)) for stored in STORED]
     if arguments:
-        return 0 if all([tables is not None and check(stored, tables) for stored, tables in made]) and fine else 1
+        same = [tables is not None and check(stored, tables) for stored, tables in made]
+        return 0 if all([*same, counts_again(), fine]) else 1
     if not fine or None in [tables for _, tables in made]:
         return 1
     for stored, tables in made:

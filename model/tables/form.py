@@ -4,7 +4,7 @@ import struct
 
 
 class Disagreement(Exception):
-    """What is written down by hand and what the model gives are not the same."""
+    """What is written down by hand, or said by 02, and what the model gives are not the same."""
 
 
 def agree(by_hand, given, case):

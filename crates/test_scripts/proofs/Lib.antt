@@ -1,2 +1,4 @@
 pub mod Turns
 pub mod Verdicts
+pub mod SameBytes
+pub mod Outcomes

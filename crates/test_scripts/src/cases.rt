@@ -1,4 +1,6 @@
 // One case.
+use crate::again::Again;
+use crate::again::script_again;
 use crate::judging::Verdict;
 use crate::judging::judged;
 use words::natural;
@@ -11,11 +13,12 @@ pub(crate) enum Seen {
     Run(Judged),
 }
 
-// A case's number and mark, as stored, and how its run differs.
+// A case's number and mark, as stored, how its run differs, and what becomes of its script.
 pub(crate) struct Judged {
     pub number: usize,
     pub mark: usize,
     pub verdict: Verdict,
+    pub again: Again,
 }
 
 // One case. There is place for 16,400 words of script, which are more than a script may have, and
@@ -70,9 +73,11 @@ fn read_rest(
         return Seen::Cut;
     }
     let verdict = judged(head, &padded[..bytes], stored, out);
+    let again = script_again(&padded[..bytes]);
     Seen::Run(Judged {
         number: natural(head, 4),
         mark: natural(head, 3),
         verdict,
+        again,
     })
 }

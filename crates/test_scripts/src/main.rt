@@ -1,6 +1,9 @@
 // Runs scripts whose answers are stored, and says of each table how many were run and how many
 // differ: tables made from 01, and a sample of the comparison with the Rust. Of the sample it says
-// too how many end with each of 01's numbers, and on how many the Rust differs from 01.
+// too how many end with each of 01's numbers, and on how many the Rust differs from 01. Of both it
+// says how many scripts are the same bytes when they are read back and written again.
+mod again;
+mod again_tally;
 mod cases;
 mod judging;
 mod report;

@@ -1,4 +1,5 @@
 // What the program says.
+use crate::again_tally::AgainTally;
 use crate::cases::Judged;
 use crate::cases::Seen;
 use crate::cases::case;
@@ -10,22 +11,25 @@ use libc::STDOUT_FILENO;
 use std::num::wrapping_add_usize;
 use words::natural;
 
-// How many cases were run, how many of them differ, how many are marked, and how many have each
-// number.
+// How many cases of a table were run, how many of them differ, how many are marked, how many have
+// each number; and what becomes of scripts, those of the tables before it too.
 struct Tally {
     run: usize,
     differ: usize,
     marked: usize,
     numbers: [usize; 7],
+    again: AgainTally,
 }
 
 impl Tally {
-    fn none() -> Tally {
+    // No case yet, after scripts that are counted so.
+    fn after(again: AgainTally) -> Tally {
         Tally {
             run: 0,
             differ: 0,
             marked: 0,
             numbers: [0; 7],
+            again,
         }
     }
 
@@ -41,6 +45,9 @@ impl Tally {
             let before = tally.numbers[number];
             tally.numbers[number] = wrapping_add_usize(before, 1);
         }
+        let again = judged.again;
+        let written = tally.again.with(again);
+        tally.again = written;
         let verdict = judged.verdict;
         let Verdict::Same = verdict else {
             tally.differ = wrapping_add_usize(tally.differ, 1);
@@ -52,33 +59,37 @@ impl Tally {
 
 // The tables of scripts.
 pub(crate) fn scripts(file: i32) {
-    table(b"the whole case", file);
-    table(b"lengths", file);
-    table(b"header", file);
-    table(b"padding", file);
-    table(b"parameters", file);
-    table(b"kinds", file);
-    table(b"operands cut off", file);
-    table(b"masks", file);
-    table(b"two faults", file);
-    table(b"rooms", file);
-    table(b"glyphs", file);
-    table(b"damaged copies", file);
+    let mut tally = table(b"the whole case", file, AgainTally::none());
+    tally = table(b"lengths", file, tally.again);
+    tally = table(b"header", file, tally.again);
+    tally = table(b"padding", file, tally.again);
+    tally = table(b"parameters", file, tally.again);
+    tally = table(b"kinds", file, tally.again);
+    tally = table(b"operands cut off", file, tally.again);
+    tally = table(b"masks", file, tally.again);
+    tally = table(b"two faults", file, tally.again);
+    tally = table(b"rooms", file, tally.again);
+    tally = table(b"glyphs", file, tally.again);
+    tally = table(b"damaged copies", file, tally.again);
     end(file);
+    let again = tally.again;
+    again.say();
 }
 
 // The sample, which is one table.
 pub(crate) fn sample(file: i32) {
-    let tally = table(b"sample", file);
+    let tally = table(b"sample", file, AgainTally::none());
     end(file);
     totals(tally);
+    let again = tally.again;
+    again.say();
 }
 
 // Runs as many cases as the next word says, and says how many differ.
-fn table(name: &[u8], file: i32) -> Tally {
+fn table(name: &[u8], file: i32, again: AgainTally) -> Tally {
     let mut word = [0u8; 4];
     read_full(file, &mut word);
-    let tally = run(file, natural(&word, 0));
+    let tally = run(file, natural(&word, 0), again);
     test_tables::counts(name, tally.run, tally.differ);
     tally
 }
@@ -92,8 +103,8 @@ fn end(file: i32) {
 }
 
 // Runs so many cases, or those before the first that cannot be read.
-fn run(file: i32, count: usize) -> Tally {
-    let mut tally = Tally::none();
+fn run(file: i32, count: usize, again: AgainTally) -> Tally {
+    let mut tally = Tally::after(again);
     for i in 0..count {
         let seen = case(file);
         let Seen::Run(judged) = seen else {

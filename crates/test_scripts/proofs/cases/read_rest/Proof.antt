@@ -35,6 +35,15 @@ slice-aggregate-judged c = sym (length-take-le _ _ (search needs))
 judged-requires : tie.Need-judged-requires
 judged-requires c κs = search needs
 
+slice-reshare-prefix-script-again : tie.Need-slice-reshare-prefix-script-again
+slice-reshare-prefix-script-again c = search needs
+
+slice-aggregate-script-again : tie.Need-slice-aggregate-script-again
+slice-aggregate-script-again c = sym (length-take-le _ _ (search needs))
+
+script-again-requires : tie.Need-script-again-requires
+script-again-requires c κs = search needs
+
 natural-requires : tie.Need-natural-requires
 natural-requires c κs = search needs
 
@@ -67,6 +76,9 @@ read-rest-spec =
     slice-reshare-prefix-judged
     slice-aggregate-judged
     judged-requires
+    slice-reshare-prefix-script-again
+    slice-aggregate-script-again
+    script-again-requires
     natural-requires
     natural-requires-2
     same-length-4

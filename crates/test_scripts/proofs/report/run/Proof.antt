@@ -11,8 +11,8 @@ Inv-loop file count tally₀ i₀ t8 tally i = i ≤ count
 abbrev μ-loop : tie.MeasureT-loop
 μ-loop file count tally₀ i₀ t8 tally i = count - i
 
-none-requires : tie.Need-none-requires Inv-loop μ-loop
-none-requires c κs = search needs
+after-requires : tie.Need-after-requires Inv-loop μ-loop
+after-requires c κs = search needs
 
 loop-holds : tie.Need-loop-holds Inv-loop μ-loop
 loop-holds c = search needs
@@ -62,7 +62,7 @@ run-spec =
     (tie.spec
     Inv-loop
     μ-loop
-    none-requires
+    after-requires
     loop-holds
     case-requires
     enum-known-seen
