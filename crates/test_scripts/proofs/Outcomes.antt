@@ -13,7 +13,8 @@ use Rattle.script.proofs.Passed.{passed}
 use Rattle.script.proofs.Results.{refused, taken}
 use Rattle.writer.specs.declared.write_answer.WriteAnswer.{WriteAnswer}
 use Rattle.writer.specs.ToWrite.{Given, given}
-use Rattle.writer.specs.Refusals.{over, writeOf, Wrote}
+use Rattle.words.specs.Bytes.{over}
+use Rattle.writer.specs.Refusals.{writeOf, Wrote}
 use Rattle.readback.specs.declared.reading_back.ReadBack.{ReadBack}
 use Rattle.readback.specs.ReadBack.{givenIn, readRows, readBy, readBackOf, ReadAs}
 use Rattle.readback.proofs.ReadRooms.{accepted}
