@@ -63,6 +63,11 @@ module _ (w : ℕ → ℕ) where
       ap (λ (l : List ℕ). w i ∷ l)
       (words-split (i + 1) m n ∙ ap (λ (k : ℕ). wordsFrom w (i + 1) m ++ wordsFrom w k n) f)
 
+  -- one more
+  pub words-more : (i n : ℕ) → wordsFrom w i (n + 1) ≡ wordsFrom w i n ++ (w (i + n) ∷ [])
+  unfolding wordsFrom
+  words-more i n = words-split i n 1
+
   -- the first m of n, and those behind
   words-apart : (i m n : ℕ) → m ≤ n → wordsFrom w i n ≡ wordsFrom w i m ++ wordsFrom w (i + m) (n - m)
   words-apart i m n h =
