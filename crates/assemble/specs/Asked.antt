@@ -2,13 +2,13 @@
 -- script.
 use mathlib.Core.Path.{_≡_}
 use mathlib.Core.Bool.{Bool, cond, _||_}
-use mathlib.Core.List.{List, [], _∷_, _++_}
-use Prim.Native.Nat.{ℕ, zero, suc, _+_, _*_}
+use mathlib.Core.List.{List, [], _∷_, _++_, map}
+use Prim.Native.Nat.{ℕ, _+_, _*_}
 use lib.Dec.{ltb}
-use lib.IntN.{ℤ}
 use lib.ListN.{length, take, drop}
+use Rattle.fixed.specs.Integers.{signed}
 use Rattle.words.specs.Bytes.{bytesOf, over}
-use Rattle.words.specs.Words.{rawAt, wordAt, numberAt}
+use Rattle.words.specs.Words.{rawAt, numberAt, wordsFrom}
 use Rattle.writer.specs.declared.write_answer.WriteAnswer.{WriteAnswer}
 use Rattle.writer.specs.declared.write_answer.WriteAnswer.the-variants.{ScriptRoom}
 use Rattle.writer.specs.ToWrite.{Given, given, scriptFor}
@@ -16,16 +16,11 @@ use Rattle.writer.specs.ParamWords.{paramsIn}
 use Rattle.writer.specs.Refusals.{writeNumber, writePlace, writeRefuses, writeAnswer, WriteResult, bufferBy}
 
 -- ---- the input
--- n words from word i on
-unfoldable pub wordsFrom : List ℕ → ℕ → ℕ → List ℤ
-wordsFrom b i zero = []
-wordsFrom b i (suc n) = wordAt (rawAt b) i ∷ wordsFrom b (i + 1) n
-
 -- the scale, 64 parameter words, two counts, so many command words; behind them so many mask bytes
 abbrev pub askedBy : List ℕ → ℕ → ℕ → Given
 askedBy b commands masks =
-    given (numberAt (rawAt b) 0) (paramsIn (wordsFrom b 1 64)) (wordsFrom b 67 commands)
-    (take masks (drop (4 * (67 + commands)) b))
+    given (numberAt (rawAt b) 0) (paramsIn (map signed (wordsFrom (rawAt b) 1 64)))
+    (map signed (wordsFrom (rawAt b) 67 commands)) (take masks (drop (4 * (67 + commands)) b))
 
 unfoldable pub askedIn : List ℕ → Given
 askedIn b = askedBy b (rawAt b 65) (rawAt b 66)

@@ -2,15 +2,15 @@
 use words::layout;
 use words::natural;
 use words::number;
-use words::word;
+use words::read_words;
 use writer::WriteAnswer;
 use writer::params_from;
 use writer::write_script;
 ghost use mathlib.Core.Path.{_≡_};
-ghost use Prim.Native.Nat.{_+_, _*_, _≤_};
+ghost use Prim.Native.Nat.{_≤_};
 ghost use lib.ListN.{length};
 ghost use Rattle.writer.specs.Refusals.{writeOf, Wrote};
-ghost use Rattle.assemble.specs.Asked.{wordsFrom, askedBy, answerIn};
+ghost use Rattle.assemble.specs.Asked.{askedBy, answerIn};
 
 // Where the words of the input stand.
 const SCALE: usize = 0;
@@ -29,16 +29,6 @@ const MOST_COMMANDS: usize = layout::MAX_SCRIPT_BYTES / 4;
 const MOST_MASKS: usize = layout::MAX_SCRIPT_BYTES;
 
 pub(crate) const INPUT_BYTES: usize = 4 * (COMMANDS + MOST_COMMANDS) + MOST_MASKS;
-
-// The words of some bytes from word `first` on, as many as are lent.
-fn read_words(bytes: &[u8], first: usize, words: &mut [i32])
-    requires { ⌜ 4 * (first + length (now words)) ≤ length (now bytes) ⌝ }
-    ensures { λ _. ⌜ now (words .exit) ≡ wordsFrom (now (bytes .entry)) first (length (now (words .entry))) ⌝ }
-{
-    for i in 0..words.len() {
-        words[i] = word(bytes, first + i);
-    }
-}
 
 // Writes the script that an input asks for with so many command words and mask bytes.
 fn write_asked(input: &[u8], commands: usize, masks: usize, script: &mut [u8]) -> WriteAnswer

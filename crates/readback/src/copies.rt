@@ -1,6 +1,7 @@
 // The commands of a script, copied as the writer takes them.
 use commands::operands;
 use words::natural;
+use words::read_words;
 use words::word;
 use writer::given_operands;
 ghost use mathlib.Core.Path.{_≡_};
@@ -8,7 +9,7 @@ ghost use mathlib.Core.List.{map};
 ghost use Prim.Native.Nat.{_+_, _*_, _≤_};
 ghost use lib.ListN.{length};
 ghost use Rattle.fixed.specs.Integers.{signed};
-ghost use Rattle.words.specs.Words.{rawAt, wordsFrom};
+ghost use Rattle.words.specs.Words.{rawAt};
 ghost use Rattle.words.specs.Bytes.{over, placed};
 ghost use Rattle.commands.specs.Commands.{operandsOf};
 ghost use Rattle.writer.specs.Pieces.{pieceWords, givenOperands, unstarted};
@@ -29,17 +30,6 @@ pub(crate) fn count_short(script: &[u8], first: usize, n: usize) -> usize
     count
 }
 
-// So many words of a script, from one on, at a place of the commands.
-fn copy_words(script: &[u8], from: usize, n: usize, commands: &mut [i32], to: usize)
-    requires { ⌜ (4 * (from + n) ≤ length (now script)) × (to + n ≤ length (now commands)) ⌝ }
-    ensures { λ _. ⌜ now (commands .exit) ≡
-        placed (now (commands .entry)) to (map signed (wordsFrom (rawAt (now (script .entry))) from n)) ⌝ }
-{
-    for i in 0..n {
-        commands[to + i] = word(script, from + i);
-    }
-}
-
 // The piece at a word of a script, without its start, at a place of the commands.
 fn copy_piece(script: &[u8], at: usize, commands: &mut [i32], to: usize)
     requires { ⌜ (4 * (at + 1 + operandsOf (rawAt (now script) at)) ≤ length (now script)) ×
@@ -51,8 +41,10 @@ fn copy_piece(script: &[u8], at: usize, commands: &mut [i32], to: usize)
     let kind = natural(script, at);
     let given = given_operands(kind);
     let next = at + 1 + operands(kind);
-    copy_words(script, at, 1, commands, to);
-    copy_words(script, next - given, given, commands, to + 1);
+    let behind = to + 1;
+    let end = behind + given;
+    commands[to] = word(script, at);
+    read_words(script, next - given, &mut commands[behind..end]);
 }
 
 // All of them, from the start of the commands on, and how many words they have.

@@ -1,6 +1,5 @@
 // What the cases of writing and of reading share.
 use crate::judging::Verdict;
-use crate::lending::fill_words;
 use io::read_full;
 
 // The bytes of the nine words that start a case.
@@ -37,6 +36,6 @@ fn read_words_by(file: i32, bytes: &mut [u8], words: &mut [i32]) -> bool {
     if !read_bytes(file, &mut bytes[..end]) {
         return false;
     }
-    fill_words(words, bytes);
+    words::read_words(bytes, 0, words);
     true
 }

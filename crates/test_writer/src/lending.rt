@@ -1,13 +1,9 @@
-// What is lent to a call: buffers in which every byte and every word would show if it changed, and
-// words from their bytes in the file.
+// What is lent to a call: buffers in which every byte and every word would show if it changed.
 use fixed::signed;
 use std::num::wrapping_add_u8;
 use std::num::wrapping_add_u32;
-use words::word;
 ghost use mathlib.Core.Path.{_≡_};
-ghost use Prim.Native.Nat.{_*_, _≤_};
 ghost use lib.ListN.{length};
-ghost use Rattle.words.specs.Words.{rawAt, wordAt};
 ghost use Rattle.test_writer.specs.Lending.{filled, lentByte, lentWord};
 
 // Each byte is so much more than the one before it; a word likewise, and the first is so many times
@@ -35,15 +31,5 @@ pub(crate) fn lend_words(out: &mut [i32], fill: u8)
     for i in 0..out.len() {
         out[i] = signed(bits);
         bits = wrapping_add_u32(bits, WORD_STEP);
-    }
-}
-
-// Words as they are stored.
-pub(crate) fn fill_words(words: &mut [i32], stored: &[u8])
-    requires { ⌜ 4 * length (now words) ≤ length (now stored) ⌝ }
-    ensures { λ _. ⌜ now (words .exit) ≡ filled (wordAt (rawAt (now (stored .entry)))) (length (now (words .entry))) ⌝ }
-{
-    for i in 0..words.len() {
-        words[i] = word(stored, i);
     }
 }

@@ -16,6 +16,9 @@ use Rattle.words.proofs.read.natural.Reads as natural-reads
 use Rattle.words.proofs.read.raw as raw
 use Rattle.words.proofs.read.raw.Kinds as raw-kinds
 use Rattle.words.proofs.read.raw.Reads as raw-reads
+use Rattle.words.proofs.read.read_words as read
+use Rattle.words.proofs.read.read_words.Kinds as read-kinds
+use Rattle.words.proofs.read.read_words.Reads as read-reads
 use Rattle.words.proofs.read.word as word
 use Rattle.words.proofs.read.word.Kinds as word-kinds
 use Rattle.words.proofs.read.word.Reads as word-reads
@@ -73,3 +76,8 @@ module _ (κs : Lfts 2) (a : ArgsD copy.signature κs) (r r′ : ResD copy.signa
     (x x′ : AtExit (endedOf 2 copy-kinds.ps copy-kinds.r) κs) where
   pub copy-bytes-unique : copy-reads.Post κs a r x → copy-reads.Post κs a r′ x′ → now (x .1 .0) ≡ now (x′ .1 .0)
   copy-bytes-unique p q = p ∙ sym q
+
+module _ (κs : Lfts 2) (a : ArgsD read.signature κs) (r r′ : ResD read.signature κs)
+    (x x′ : AtExit (endedOf 2 read-kinds.ps read-kinds.r) κs) where
+  pub read-words-unique : read-reads.Post κs a r x → read-reads.Post κs a r′ x′ → now (x .1 .1 .0) ≡ now (x′ .1 .1 .0)
+  read-words-unique p q = p ∙ sym q

@@ -32,23 +32,6 @@ module _ (w : ℕ → ℕ) where
       let e : n ≡ suc (n - 1) = omega arith in
       ap (wordsFrom w i) e
 
-  -- the first of those that are left behind i others
-  pub words-onward : (from i n : ℕ) → i < n →
-      wordsFrom w (from + i) (n - i) ≡ w (from + i) ∷ wordsFrom w (from + (i + 1)) (n - (i + 1))
-  words-onward from i n h =
-      let e : from + i + 1 ≡ from + (i + 1) = omega arith in
-      let f : n - i - 1 ≡ n - (i + 1) = omega arith in
-      words-first (from + i) (n - i) (omega arith) ∙
-      ap (λ (k : ℕ). w (from + i) ∷ wordsFrom w k (n - i - 1)) e ∙
-      ap (λ (k : ℕ). w (from + i) ∷ wordsFrom w (from + (i + 1)) k) f
-
-  -- none
-  pub words-none : (i n : ℕ) → n ≤ 0 → wordsFrom w i n ≡ []
-  unfolding wordsFrom
-  words-none i n h =
-      let e : n ≡ 0 = omega arith in
-      ap (wordsFrom w i) e
-
   -- some of them, and those behind
   pub words-split : (i m n : ℕ) → wordsFrom w i (m + n) ≡ wordsFrom w i m ++ wordsFrom w (i + m) n
   unfolding wordsFrom
@@ -62,6 +45,11 @@ module _ (w : ℕ → ℕ) where
       ap (wordsFrom w i) e ∙
       ap (λ (l : List ℕ). w i ∷ l)
       (words-split (i + 1) m n ∙ ap (λ (k : ℕ). wordsFrom w (i + 1) m ++ wordsFrom w k n) f)
+
+  -- one more
+  pub words-more : (i n : ℕ) → wordsFrom w i (n + 1) ≡ wordsFrom w i n ++ (w (i + n) ∷ [])
+  unfolding wordsFrom
+  words-more i n = words-split i n 1
 
   -- the first m of n, and those behind
   words-apart : (i m n : ℕ) → m ≤ n → wordsFrom w i n ≡ wordsFrom w i m ++ wordsFrom w (i + m) (n - m)

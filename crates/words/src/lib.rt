@@ -8,6 +8,7 @@ pub use answer::Answer;
 pub use read::natural;
 pub use read::number;
 pub use read::raw;
+pub use read::read_words;
 pub use read::word;
 pub use storing::copy_bytes;
 pub use storing::store;

@@ -2,9 +2,11 @@
 use fixed::Fixed;
 use fixed::signed;
 ghost use mathlib.Core.Path.{_≡_};
+ghost use mathlib.Core.List.{map};
 ghost use Prim.Native.Nat.{_+_, _*_, _≤_, _<_};
 ghost use lib.ListN.{length};
-ghost use Rattle.words.specs.Words.{rawAt, wordAt, numberAt};
+ghost use Rattle.fixed.specs.Integers.{signed};
+ghost use Rattle.words.specs.Words.{rawAt, wordAt, numberAt, wordsFrom};
 
 fn wide(byte: u8) -> u32
     ensures { λ r. ⌜ (r ≡ byte) × (r < 256) ⌝ }
@@ -48,4 +50,15 @@ pub fn number(script: &[u8], i: usize) -> Fixed
 {
     let bits = word(script, i);
     Fixed { bits }
+}
+
+// The words of some bytes from word `first` on, as many as are lent.
+pub fn read_words(bytes: &[u8], first: usize, words: &mut [i32])
+    requires { ⌜ 4 * (first + length (now words)) ≤ length (now bytes) ⌝ }
+    ensures { λ _. ⌜ now (words .exit) ≡
+        map signed (wordsFrom (rawAt (now (bytes .entry))) first (length (now (words .entry)))) ⌝ }
+{
+    for i in 0..words.len() {
+        words[i] = word(bytes, first + i);
+    }
 }

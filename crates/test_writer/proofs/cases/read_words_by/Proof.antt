@@ -26,8 +26,8 @@ same-length c = search needs
 returns-2 : tie.Need-returns-2
 returns-2 c = search needs
 
-fill-words-requires : tie.Need-fill-words-requires
-fill-words-requires c κs = search needs
+read-words-requires : tie.Need-read-words-requires
+read-words-requires c κs = search needs
 
 same-length-2 : tie.Need-same-length-2
 same-length-2 c = search needs
@@ -49,7 +49,7 @@ read-words-by-spec =
     read-bytes-requires
     same-length
     returns-2
-    fill-words-requires
+    read-words-requires
     same-length-2
     same-length-3
     returns-3)

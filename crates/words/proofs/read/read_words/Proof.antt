@@ -1,32 +1,32 @@
--- `read_words` reads the words one by one: after i turns the first i stand there. Assumes nothing.
-use mathlib.Core.Path.{_≡_, sym, ap, _∙_}
-use mathlib.Core.List.{List, [], _∷_, _++_}
+-- `read_words` reads words one by one. The loop's invariant: the first `i` are those of the bytes.
+-- Assumes nothing.
+use mathlib.Core.Path.{_≡_, refl, sym, _∙_}
+use mathlib.Core.List.{map, map-append}
 use Prim.Native.Nat.{_+_, _-_, _≤_}
 use native.Mathlib.Numerals.{add-one}
 use native.Mathlib.Omega.{arith}
-use lib.IntN.{ℤ}
-use lib.ListN.{length, take}
+use lib.ListN.{length, take, length-set}
 use lib.Seq.{take-suc-set, take-all}
 use mir.Syntax.{w32}
-use mir.Val.{SFits, toZ, ofZ}
+use mir.Val.{SFits}
 use mir.Facts.{toZ-ofZ}
 use borrow.Author.Needs.{needs}
-use Rattle.words.specs.Words.{rawAt, wordAt}
-use Rattle.assemble.specs.Asked.{wordsFrom}
-use Rattle.assemble.proofs.Reading.{one-more}
-use Rattle.assemble.proofs.asked.read_words.Statement.{statement}
-use Rattle.assemble.proofs.asked.read_words.Tie as tie
+use Rattle.fixed.specs.Integers.{signed}
+use Rattle.words.specs.Words.{rawAt, wordsFrom}
+use Rattle.words.proofs.Words.{words-more}
+use Rattle.words.proofs.read.read_words.Statement.{statement}
+use Rattle.words.proofs.read.read_words.Tie as tie
 
 abbrev Inv-loop : tie.InvT-loop
 Inv-loop bytes first words₀ i₀ i-end words i =
-    (take i words ≡ wordsFrom bytes first i) × ((length words ≡ i-end) × ((i ≤ i-end) × (i-end ≡ length words₀)))
+    (take i words ≡ map signed (wordsFrom (rawAt bytes) first i)) × ((length words ≡ length words₀) × (i ≤ i-end))
 
 abbrev μ-loop : tie.MeasureT-loop
 μ-loop bytes first words₀ i₀ i-end words i = i-end - i
 
 loop-holds : tie.Need-loop-holds Inv-loop μ-loop
 unfolding wordsFrom
-loop-holds c = search needs
+loop-holds c = (refl, (refl, search needs))
 
 add-word : tie.Need-add-word Inv-loop μ-loop
 add-word c = search needs
@@ -50,15 +50,12 @@ loop-again : tie.Need-loop-again Inv-loop μ-loop
 loop-again c =
     let l = c .before .before in
     let a = l .before .before .args in
-    let v = toZ w32 (ofZ w32 (c .word .result)) in
+    let w = rawAt (a .bytes .now) in
+    let i = l .loop .i in
     let f : SFits w32 (c .word .result) = search needs in
-    let w : v ≡ wordAt (rawAt (a .bytes .now)) (a .first + l .loop .i) = toZ-ofZ f ∙ c .word .ensures in (
-      rw (add-one (l .loop .i))
-          (take-suc-set (l .loop .words) (l .loop .i) v (search needs) ∙
-          ap (λ (t : List ℤ). t ++ (v ∷ [])) (l .loop .inv .0) ∙
-          ap (λ (z : ℤ). wordsFrom (a .bytes .now) (a .first) (l .loop .i) ++ (z ∷ [])) w ∙
-          sym (one-more (a .bytes .now) (a .first) (l .loop .i))),
-      (search needs, (search needs, search needs)),
+    let t = take-suc-set (l .loop .words) i (signed (w (a .first + i))) (omega arith) in (
+      rw (toZ-ofZ f, c .word .ensures, words-more w (a .first) i, map-append, ← l .loop .inv .0, add-one i) t,
+      (simp length-set (l .loop .inv .1 .0), search needs),
     )
 
 same-length : tie.Need-same-length Inv-loop μ-loop
@@ -69,8 +66,7 @@ returns c =
     let l = c .before in
     let a = l .before .before .args in
     let e : l .loop .i ≡ length (a .words .now) = omega arith in
-    sym (take-all (l .loop .i) (l .loop .words) (omega arith)) ∙ l .loop .inv .0 ∙
-    ap (wordsFrom (a .bytes .now) (a .first)) e
+    rw (← e) (sym (take-all (l .loop .i) (l .loop .words) (omega arith)) ∙ l .loop .inv .0)
 
 pub read-words-spec : {M : Type 1} → statement M
 read-words-spec =
