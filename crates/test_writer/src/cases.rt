@@ -20,22 +20,3 @@ pub(crate) enum Seen {
 pub(crate) fn read_bytes(file: i32, bytes: &mut [u8]) -> bool {
     read_full(file, bytes) == bytes.len()
 }
-
-// Reads words, and says whether they are all there.
-pub(crate) fn read_words(file: i32, words: &mut [i32]) -> bool {
-    let mut bytes = [0u8; HELD_BYTES];
-    read_words_by(file, &mut bytes, words)
-}
-
-// Reads words by way of their bytes.
-fn read_words_by(file: i32, bytes: &mut [u8], words: &mut [i32]) -> bool {
-    let end = 4 * words.len();
-    if bytes.len() < end {
-        return false;
-    }
-    if !read_bytes(file, &mut bytes[..end]) {
-        return false;
-    }
-    words::read_words(bytes, 0, words);
-    true
-}

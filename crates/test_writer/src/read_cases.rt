@@ -3,102 +3,86 @@ use crate::cases::HELD_BYTES;
 use crate::cases::HELD_WORDS;
 use crate::cases::Seen;
 use crate::cases::read_bytes;
-use crate::cases::read_words;
+use crate::judging::Verdict;
 use crate::judging::judged_reading;
 use crate::read_row;
 use words::natural;
-ghost use Prim.Native.Nat.{_*_, _≤_};
+use words::read_words;
+ghost use mathlib.Core.Path.{_≡_};
+ghost use Prim.Native.Nat.{_+_, _*_, _≤_};
 ghost use lib.ListN.{length};
+ghost use Rattle.header.specs.Header.{padded};
+
+// The bytes of all parts of a case.
+const HELD_CASE: usize = 4 * (read_row::PARAMS + HELD_WORDS) + 2 * HELD_BYTES;
 
 pub(crate) fn read_case(file: i32, head: &[u8]) -> Seen
     requires { ⌜ 36 ≤ length (now head) ⌝ }
 {
-    let mut script = [0u8; HELD_BYTES];
-    let mut words = [0u8; HELD_BYTES];
-    let mut bytes = [0u8; HELD_BYTES];
-    let mut commands = [0i32; HELD_WORDS];
-    let mut masks = [0u8; HELD_BYTES];
-    read_sized(
-        file,
-        head,
-        &mut script,
-        &mut words,
-        &mut bytes,
-        &mut commands,
-        &mut masks,
-    )
+    let mut case = [0u8; HELD_CASE];
+    read_sized(file, head, &mut case)
 }
 
-// Takes as much of each buffer as the case says.
-fn read_sized(
-    file: i32,
-    head: &[u8],
-    script: &mut [u8],
-    words: &mut [u8],
-    bytes: &mut [u8],
-    commands: &mut [i32],
-    masks: &mut [u8],
-) -> Seen
+// Reads as many bytes as the case has.
+fn read_sized(file: i32, head: &[u8], case: &mut [u8]) -> Seen
     requires { ⌜ 36 ≤ length (now head) ⌝ }
 {
     let size = natural(head, read_row::SCRIPT);
-    let room_words = natural(head, read_row::ROOM_WORDS);
-    let room_bytes = natural(head, read_row::ROOM_BYTES);
-    let padded = 4 * ((size + 3) / 4);
-    let words_end = 4 * room_words;
-    let bytes_end = 4 * ((room_bytes + 3) / 4);
-    if script.len() < padded || words.len() < words_end || bytes.len() < bytes_end {
+    let words = natural(head, read_row::ROOM_WORDS);
+    let bytes = natural(head, read_row::ROOM_BYTES);
+    let end = 4 * (read_row::PARAMS + (size + 3) / 4 + words + (bytes + 3) / 4);
+    if HELD_WORDS < words || HELD_BYTES < bytes || case.len() < end {
         return Seen::Cut;
     }
-    if commands.len() < room_words || masks.len() < room_bytes {
+    if !read_bytes(file, &mut case[..end]) {
         return Seen::Cut;
     }
-    read_parts(
-        file,
+    Seen::Run(run_case(head, case, size, words, bytes))
+}
+
+// Lends as many words and bytes as the case says.
+fn run_case(head: &[u8], case: &[u8], size: usize, words: usize, bytes: usize) -> Verdict
+    requires { ⌜ (36 ≤ length (now head)) × ((words ≤ 16400) × ((bytes ≤ 65600) ×
+        (4 * (64 + padded size + words + padded bytes) ≤ length (now case)))) ⌝ }
+{
+    let mut params = [0i32; read_row::PARAMS];
+    let mut commands = [0i32; HELD_WORDS];
+    let mut masks = [0u8; HELD_BYTES];
+    run_parts(
         head,
+        case,
         size,
-        &mut script[..padded],
-        &mut words[..words_end],
-        &mut bytes[..bytes_end],
-        &mut commands[..room_words],
-        &mut masks[..room_bytes],
+        &mut params,
+        &mut commands[..words],
+        &mut masks[..bytes],
     )
 }
 
-// Reads the parts, and reads the script back, which is so many bytes long.
-fn read_parts(
-    file: i32,
+// Reads the script back from the parts of a case, which are the parameters, the script of so many
+// bytes, and both buffers afterwards.
+fn run_parts(
     head: &[u8],
+    case: &[u8],
     size: usize,
-    script: &mut [u8],
-    words: &mut [u8],
-    bytes: &mut [u8],
+    params: &mut [i32],
     commands: &mut [i32],
     masks: &mut [u8],
-) -> Seen
-    requires { ⌜ (36 ≤ length (now head)) × ((size ≤ length (now script)) ×
-        ((4 * length (now commands) ≤ length (now words)) × (length (now masks) ≤ length (now bytes)))) ⌝ }
+) -> Verdict
+    requires { ⌜ (36 ≤ length (now head)) × ((length (now params) ≡ 64) ×
+        (4 * (64 + padded size + length (now commands) + padded (length (now masks))) ≤ length (now case))) ⌝ }
 {
-    let mut params = [0i32; read_row::PARAMS];
-    if !read_words(file, &mut params) {
-        return Seen::Cut;
-    }
-    if !read_bytes(file, script) {
-        return Seen::Cut;
-    }
-    if !read_bytes(file, words) {
-        return Seen::Cut;
-    }
-    if !read_bytes(file, bytes) {
-        return Seen::Cut;
-    }
-    Seen::Run(judged_reading(
+    let script = 4 * read_row::PARAMS;
+    let end = script + size;
+    let words = script + 4 * ((size + 3) / 4);
+    let bytes = words + 4 * commands.len();
+    read_words(case, 0, params);
+    judged_reading(
         head,
-        &params,
-        &script[..size],
-        words,
-        bytes,
+        params,
+        &case[script..end],
+        &case[words..],
+        &case[bytes..],
         commands,
         masks,
-    ))
+    )
 }

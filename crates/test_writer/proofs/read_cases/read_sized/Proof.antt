@@ -1,9 +1,14 @@
--- `read_cases::read_sized` is safe: each part that is lent has the length that was tested. Assumes
--- nothing.
+-- `read_cases::read_sized` is safe: the bytes that are read are a part of those lent, which keep their
+-- length. Assumes nothing.
 use mathlib.Core.Path.{sym}
+use mathlib.Core.List.{_++_}
+use Prim.Native.Nat.{_+_, _*_, _/_, _≤_}
 use native.Mathlib.Omega.{arith}
+use lib.ListN.{length, drop}
 use lib.Seq.{length-take-le}
 use borrow.Author.Needs.{needs}
+use borrow.Author.Tests.{ltb-false}
+use borrow.Table.Elements.{same-len}
 use Rattle.test_writer.proofs.read_cases.read_sized.Statement.{statement}
 use Rattle.test_writer.proofs.read_cases.read_sized.Tie as tie
 
@@ -16,83 +21,60 @@ natural-requires-2 c κs = search needs
 natural-requires-3 : tie.Need-natural-requires-3
 natural-requires-3 c κs = search needs
 
-add-padded : tie.Need-add-padded
-add-padded c = search needs
+add-end : tie.Need-add-end
+add-end c = search needs
 
-mul-padded : tie.Need-mul-padded
-mul-padded c = search needs
+add-end-2 : tie.Need-add-end-2
+add-end-2 c = search needs
 
-mul-words-end : tie.Need-mul-words-end
-mul-words-end c = search needs
+add-end-3 : tie.Need-add-end-3
+add-end-3 c = search needs
 
-add-bytes-end : tie.Need-add-bytes-end
-add-bytes-end c = search needs
+add-end-4 : tie.Need-add-end-4
+add-end-4 c = search needs
 
-mul-bytes-end : tie.Need-mul-bytes-end
-mul-bytes-end c = search needs
+add-end-5 : tie.Need-add-end-5
+add-end-5 c = search needs
+
+mul-end : tie.Need-mul-end
+mul-end c = search needs
 
 returns : tie.Need-returns
 returns c = search needs
 
-returns-2 : tie.Need-returns-2
-returns-2 c = search needs
+slice-relend-prefix-read-bytes : tie.Need-slice-relend-prefix-read-bytes
+slice-relend-prefix-read-bytes c = search needs
 
-slice-relend-prefix-read-parts : tie.Need-slice-relend-prefix-read-parts
-slice-relend-prefix-read-parts c = search needs
+slice-aggregate-read-bytes : tie.Need-slice-aggregate-read-bytes
+slice-aggregate-read-bytes c = sym (length-take-le _ _ (search needs))
 
-slice-aggregate-read-parts : tie.Need-slice-aggregate-read-parts
-slice-aggregate-read-parts c = sym (length-take-le _ _ (search needs))
-
-slice-relend-prefix-read-parts-2 : tie.Need-slice-relend-prefix-read-parts-2
-slice-relend-prefix-read-parts-2 c = search needs
-
-slice-aggregate-read-parts-2 : tie.Need-slice-aggregate-read-parts-2
-slice-aggregate-read-parts-2 c = sym (length-take-le _ _ (search needs))
-
-slice-relend-prefix-read-parts-3 : tie.Need-slice-relend-prefix-read-parts-3
-slice-relend-prefix-read-parts-3 c = search needs
-
-slice-aggregate-read-parts-3 : tie.Need-slice-aggregate-read-parts-3
-slice-aggregate-read-parts-3 c = sym (length-take-le _ _ (search needs))
-
-slice-relend-prefix-read-parts-4 : tie.Need-slice-relend-prefix-read-parts-4
-slice-relend-prefix-read-parts-4 c = search needs
-
-slice-aggregate-read-parts-4 : tie.Need-slice-aggregate-read-parts-4
-slice-aggregate-read-parts-4 c = sym (length-take-le _ _ (search needs))
-
-slice-relend-prefix-read-parts-5 : tie.Need-slice-relend-prefix-read-parts-5
-slice-relend-prefix-read-parts-5 c = search needs
-
-slice-aggregate-read-parts-5 : tie.Need-slice-aggregate-read-parts-5
-slice-aggregate-read-parts-5 c = sym (length-take-le _ _ (search needs))
-
-read-parts-requires : tie.Need-read-parts-requires
-read-parts-requires c κs = (
-  search needs,
-  (
-    omega (arith, slice-aggregate-read-parts (c .before .before .before .before)),
-    (
-      omega (arith, slice-aggregate-read-parts-2 (c .before .before .before), slice-aggregate-read-parts-4 (c .before)),
-      omega (arith, slice-aggregate-read-parts-3 (c .before .before), slice-aggregate-read-parts-5 c),
-    ),
-  ),
-)
+read-bytes-requires : tie.Need-read-bytes-requires
+read-bytes-requires c κs = search needs
 
 same-length : tie.Need-same-length
 same-length c = search needs
 
+returns-2 : tie.Need-returns-2
+returns-2 c = search needs
+
+run-case-requires : tie.Need-run-case-requires
+run-case-requires c κs =
+    let r = c .before .before .before .before in
+    let h = r .before .before .before .before .before in
+    let case = h .before .before .before .before .before .args .case .now in
+    let end = 4 * (64 + (h .before .before .natural .result + 3) / 4 + h .before .natural2 .result +
+    (h .natural3 .result + 3) / 4) in
+    let left = r .read-bytes .last .1 .0 in
+    let there : end ≤ length (left ++ drop end case) =
+    omega (
+      arith,
+      same-len end case left (r .read-bytes .kept .1 .0),
+      ltb-false (length case) end (r .before .before .if3 .left),
+    ) in
+    (search needs, (search needs, (search needs, there)))
+
 same-length-2 : tie.Need-same-length-2
 same-length-2 c = search needs
-
-same-length-3 : tie.Need-same-length-3
-same-length-3 c = search needs
-
-same-length-4 : tie.Need-same-length-4
-same-length-4 c = search needs
-
-same-length-5 : tie.Need-same-length-5
-same-length-5 c = search needs
 
 returns-3 : tie.Need-returns-3
 returns-3 c = search needs
@@ -104,27 +86,18 @@ read-sized-spec =
     natural-requires
     natural-requires-2
     natural-requires-3
-    add-padded
-    mul-padded
-    mul-words-end
-    add-bytes-end
-    mul-bytes-end
+    add-end
+    add-end-2
+    add-end-3
+    add-end-4
+    add-end-5
+    mul-end
     returns
-    returns-2
-    slice-relend-prefix-read-parts
-    slice-aggregate-read-parts
-    slice-relend-prefix-read-parts-2
-    slice-aggregate-read-parts-2
-    slice-relend-prefix-read-parts-3
-    slice-aggregate-read-parts-3
-    slice-relend-prefix-read-parts-4
-    slice-aggregate-read-parts-4
-    slice-relend-prefix-read-parts-5
-    slice-aggregate-read-parts-5
-    read-parts-requires
+    slice-relend-prefix-read-bytes
+    slice-aggregate-read-bytes
+    read-bytes-requires
     same-length
+    returns-2
+    run-case-requires
     same-length-2
-    same-length-3
-    same-length-4
-    same-length-5
     returns-3)
