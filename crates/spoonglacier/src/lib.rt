@@ -37,8 +37,8 @@ pub extern "C" fn spoonglacier_write(
         (now (script .entry))) r (now (script .exit)) (now (written .exit)) (now (place .exit)) ⌝ }
 {
     let scale = Fixed { bits: scale };
-    let answer = writer::write_script(scale, writer::params_from(params), commands, masks, script);
-    *written = answer.written();
-    *place = answer.place();
-    answer.code()
+    let wrote = writer::write_script(scale, writer::params_from(params), commands, masks, script);
+    *written = wrote.written();
+    *place = wrote.place();
+    wrote.code()
 }
