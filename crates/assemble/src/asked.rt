@@ -23,7 +23,8 @@ const MASKS_COUNT: usize = 66;
 
 const COMMANDS: usize = 67;
 
-// The most command words and mask bytes that are looked at, and the bytes of an input that has them.
+// The most command words and mask bytes that are looked at, and the bytes of an input that has as
+// many.
 const MOST_COMMANDS: usize = layout::MAX_SCRIPT_BYTES / 4;
 
 const MOST_MASKS: usize = layout::MAX_SCRIPT_BYTES;
