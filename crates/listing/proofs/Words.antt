@@ -13,17 +13,18 @@ use Rattle.words.proofs.Placing.{placed-start, placed-behind, placed-length}
 use Rattle.listing.specs.declared.record.EdgeRecord.{EdgeRecord}
 use Rattle.listing.specs.Listing.{recordWords, listWords}
 
--- six words stored into six
-pub six-stores : (l : List ℤ) (a b c d e f : ℤ) → length l ≡ 6 →
-    set (set (set (set (set (set l 0 a) 1 b) 2 c) 3 d) 4 e) 5 f ≡ a ∷ b ∷ c ∷ d ∷ e ∷ f ∷ []
-six-stores [] a b c d e f h = absurd (omega arith)
-six-stores (_ ∷ []) a b c d e f h = absurd (omega arith)
-six-stores (_ ∷ _ ∷ []) a b c d e f h = absurd (omega arith)
-six-stores (_ ∷ _ ∷ _ ∷ []) a b c d e f h = absurd (omega arith)
-six-stores (_ ∷ _ ∷ _ ∷ _ ∷ []) a b c d e f h = absurd (omega arith)
-six-stores (_ ∷ _ ∷ _ ∷ _ ∷ _ ∷ []) a b c d e f h = absurd (omega arith)
-six-stores (_ ∷ _ ∷ _ ∷ _ ∷ _ ∷ _ ∷ []) a b c d e f h = refl
-six-stores (_ ∷ _ ∷ _ ∷ _ ∷ _ ∷ _ ∷ _ ∷ l) a b c d e f h = absurd (omega arith)
+-- six words stored into six, each known by another name
+pub six-stores : (l : List ℤ) {a b c d e f a′ b′ c′ d′ e′ f′ : ℤ} → length l ≡ 6 → a ≡ a′ → b ≡ b′ → c ≡ c′ → d ≡ d′ →
+    e ≡ e′ → f ≡ f′ →
+    set (set (set (set (set (set l 0 a) 1 b) 2 c) 3 d) 4 e) 5 f ≡ a′ ∷ b′ ∷ c′ ∷ d′ ∷ e′ ∷ f′ ∷ []
+six-stores [] n p q r s t u = absurd (omega arith)
+six-stores (_ ∷ []) n p q r s t u = absurd (omega arith)
+six-stores (_ ∷ _ ∷ []) n p q r s t u = absurd (omega arith)
+six-stores (_ ∷ _ ∷ _ ∷ []) n p q r s t u = absurd (omega arith)
+six-stores (_ ∷ _ ∷ _ ∷ _ ∷ []) n p q r s t u = absurd (omega arith)
+six-stores (_ ∷ _ ∷ _ ∷ _ ∷ _ ∷ []) n p q r s t u = absurd (omega arith)
+six-stores (_ ∷ _ ∷ _ ∷ _ ∷ _ ∷ _ ∷ []) n p q r s t u = rw (p, q, r, s, t, u)
+six-stores (_ ∷ _ ∷ _ ∷ _ ∷ _ ∷ _ ∷ _ ∷ l) n p q r s t u = absurd (omega arith)
 
 -- six words a record
 pub words-length : (rs : List EdgeRecord) → length (listWords rs) ≡ 6 * length rs

@@ -4,7 +4,7 @@ use mathlib.Core.Bool.{Bool, true, false, cond}
 use Prim.Native.Nat.{_<_}
 use native.Mathlib.Omega.{arith}
 use lib.IntN.{pos}
-use lib.ListN.{length, length-set}
+use lib.ListN.{length-set}
 use mir.Syntax.{w32}
 use mir.Val.{SFits, toZ, boolByte}
 use mir.Facts.{toZ-ofZ, toZ-pos}
@@ -17,6 +17,16 @@ use Rattle.listing.proofs.as_words.put_record.Tie as tie
 flag-word : (t : Bool) → toZ w32 (boolByte t) ≡ pos (cond t 1 0)
 flag-word true = refl
 flag-word false = refl
+
+-- what the record holds fits its words
+held : (c : tie.Start) →
+    SFits w32 (c .args .edge .height .bits) × (SFits w32 (c .args .edge .device .bits) ×
+    (SFits w32 (c .args .edge .scale .bits) × (c .args .edge .stem < 256)))
+held c = search needs
+
+-- and so does its kind
+told : (c : tie.After-kind-number) → SFits w32 (c .kind-number .result)
+told c = search needs
 
 slice-set-from-height : tie.Need-slice-set-from-height
 slice-set-from-height c = search needs
@@ -51,16 +61,10 @@ same-length c = simp length-set
 returns : tie.Need-returns
 returns c =
     let b = c .before .before .before .before .before .before in
-    let h : length (b .args .words .now) ≡ 6 = b .pre in
-    let r = b .args .edge in
-    let fh : SFits w32 (r .height .bits) = search needs in
-    let fd : SFits w32 (r .device .bits) = search (needs, c .before .before .before .before .struct-told2) in
-    let fs : SFits w32 (r .scale .bits) = search (needs, c .before .before .before .struct-told3) in
-    let fk : SFits w32 (c .before .before .kind-number .result) = search needs in
-    let t : r .stem < 256 = search needs in
-    let k = toZ-ofZ fk ∙ c .before .before .kind-number .ensures in
-    rw six-stores
-    (rw (toZ-ofZ fh, toZ-ofZ fd, toZ-ofZ fs, k, toZ-pos w32 {n = r .stem} (omega (arith, t)), flag-word (r .locked)))
+    let fits = held b in
+    let k = toZ-ofZ (told (c .before .before)) ∙ c .before .before .kind-number .ensures in
+    six-stores (b .args .words .now) (b .pre) (toZ-ofZ (fits .0)) (toZ-ofZ (fits .1 .0)) (toZ-ofZ (fits .1 .1 .0)) k
+    (toZ-pos w32 {n = b .args .edge .stem} (omega (arith, fits .1 .1 .1))) (flag-word (b .args .edge .locked))
 
 pub put-record-spec : {M : Type 1} → statement M
 put-record-spec =
