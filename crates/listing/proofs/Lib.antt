@@ -1,0 +1,4 @@
+pub mod Counting
+pub mod Answers
+pub mod Words
+pub mod Unique
