@@ -1,0 +1,3 @@
+pub mod Call
+pub mod Fitting
+pub mod Written
