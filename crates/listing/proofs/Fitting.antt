@@ -49,7 +49,8 @@ module _ (m : HintMap) where
         by true false = omega arith
         by false v = omega arith
 
-    pub fitting-at : (i : ℕ) → i < length (recordsIn m room) → recordAt m i ≡ getD (recordsIn m room) i (recordOf noHint)
+    pub fitting-at : (i : ℕ) → i < length (recordsIn m room) →
+        recordAt m i ≡ getD (recordsIn m room) i (recordOf noHint)
     unfolding recordsIn recordsOf
     fitting-at i = by (leb (length (recordsOf m)) room) (m .«is_valid»)
       where

@@ -1,3 +1,4 @@
 pub mod Call
 pub mod Fitting
+pub mod Locals
 pub mod Written
