@@ -77,7 +77,7 @@ use Rattle.listing.proofs.list.list_edges.Statement.{statement}
 use Rattle.listing.proofs.list.list_edges.Code as code
 use Rattle.listing.proofs.list.list_edges.Code.Mir as body
 use Rattle.listing.proofs.Call.{map-vals, MapIs, Covered, Called, calls-covered}
-use Rattle.listing.proofs.Fitting.{fitting-room, fitting-places, fitting-at}
+use Rattle.listing.proofs.Fitting.{Stand, listed-fits, listed-stand}
 use Rattle.listing.proofs.Locals.{type-of, after, found, copied}
 use Rattle.listing.proofs.Written.{written, written-length, written-over}
 
@@ -173,13 +173,13 @@ module _ {M : Type 1} (𝓤 : URA M) (H : Heap 𝓤) (A : Atoms 𝓤) (W : Given
   now = written lent (recordAt m)
 
   n-room : n ≤ length lent
-  n-room = fitting-room m (length lent)
+  n-room = listed-fits m (length lent)
 
   n-fits : n < 2 ^ 64
   n-fits = lt-of-le-of-lt n-room (room .0)
 
-  n-few : (i : ℕ) → i < n → i < 96
-  n-few i l = omega (arith, l, fitting-places m (length lent), places m m-is)
+  stand : Stand m xs
+  stand = listed-stand m (length lent) (places m m-is)
 
   abbrev passed : walkOf 𝓤 H A list-edges.ended stayed (list-edges.clauses 𝓤 H A mem run) .Ghost
   passed = (((κ, tt), (q, tt), tt, args, vals), tt)
@@ -230,7 +230,7 @@ module _ {M : Type 1} (𝓤 : URA M) (H : Heap 𝓤) (A : Atoms 𝓤) (W : Given
   all : (i : Upto) → T (not (ltb (i .0) n)) → now (i .0) ≡ over xs lent
   all i done =
       ap now (le-antisymm (i .1) (nltb→le (i .0) n done)) ∙
-      written-over lent (recordAt m) xs (recordOf noHint) (fitting-at m (length lent)) n-room
+      written-over lent (recordAt m) xs n-room (λ i l. stand i l .1)
 
   module _ (𝓣 : Tables 𝓤 H) (known : Known 𝓤 H A (𝓣 .C)) where
     abbrev C : Calls 𝓤 H
@@ -284,7 +284,7 @@ module _ {M : Type 1} (𝓤 : URA M) (H : Heap 𝓤) (A : Atoms 𝓤) (W : Given
           (λ less. skips ! $ exec ! C Λ E stored (anyQ (Turned i)) $
           -- the record
           calls-covered ! (fmOf 𝓤 H (W .laws) 𝓣) (recording 𝓤) (known .records) m (i .0) m-is
-          (lt-of-le-of-lt (i .1) n-fits) (factI 𝓤 _ (emp 𝓤) (n-few (i .0) (below less)))
+          (lt-of-le-of-lt (i .1) n-fits) (factI 𝓤 _ (emp 𝓤) (stand (i .0) (below less) .0))
           (and-then ! (copied ! 20 refl) (and-then ! (copied ! 12 refl) (no-more !))) (λ w r e r-is.
           land ! (found !) (init ! 9 refl (Struct.lawful Edge.the-type Edge′.the-laws 𝓤 H A W .typed r _ r-is .0)) $
           -- its place
