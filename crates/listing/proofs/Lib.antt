@@ -1,4 +1,8 @@
 pub mod Counting
 pub mod Answers
 pub mod Words
+pub mod Call
+pub mod Fitting
+pub mod Locals
+pub mod Written
 pub mod Unique
