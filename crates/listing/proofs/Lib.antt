@@ -2,7 +2,6 @@ pub mod Counting
 pub mod Answers
 pub mod Words
 pub mod Call
-pub mod Fitting
 pub mod Locals
 pub mod Written
 pub mod Unique

@@ -76,8 +76,8 @@ use Rattle.listing.proofs.list.list_edges.Key.{name}
 use Rattle.listing.proofs.list.list_edges.Statement.{statement}
 use Rattle.listing.proofs.list.list_edges.Code as code
 use Rattle.listing.proofs.list.list_edges.Code.Mir as body
+use Rattle.listing.proofs.Answers.{Stand, listed-fits, listed-stand}
 use Rattle.listing.proofs.Call.{map-vals, MapIs, Covered, Called, calls-covered}
-use Rattle.listing.proofs.Fitting.{Stand, listed-fits, listed-stand}
 use Rattle.listing.proofs.Locals.{type-of, after, found, copied}
 use Rattle.listing.proofs.Written.{written, written-length, written-over}
 
