@@ -13,7 +13,7 @@ use prog.Wp.{Heap, Env, Calls, Loops}
 use ghost.Atoms.{Atoms, sem}
 use contract.Monad.{fact}
 use sound.WpLaws.{FmC}
-use types.Kit.{Given, Item, ‵, raw, _⊛_, some, later, Post, runs, lands, Seq, _$_, _∵_, !, qed}
+use types.Kit.{Given, Item, ‵, raw, _⊛_, some, later, Post, Goal, runs, lands, Seq, Step, _$_, _∵_, !, qed}
 use types.Kit.{move, drop, use1, split, pick, fjoin, join, await, done}
 use types.Run.{Opds}
 use denote.RattleType.{RattleType}
@@ -32,12 +32,21 @@ use Rattle.hintmap.specs.declared.map.HintMap.{HintMap}
 use Rattle.hintmap.proofs.map.HintMap as Map
 use Rattle.hintmap.proofs.map.HintMap.Laws as Map′
 
--- the words of a map, and the relation that it has to them
+-- a map's value, the relation that it has to it, and what it owns, which is had for nothing
+abbrev pub map-val : HintMap → Val
+map-val = Struct.val Map.the-type Map′.the-laws
+
 abbrev pub map-vals : HintMap → List Val
-map-vals = Struct.vals Map.the-type Map′.the-laws
+map-vals m = map-val m ∷ []
 
 abbrev pub MapIs : HintMap → Type 0
 MapIs m = Is Map.the-row m (map-vals m)
+
+pub owned-map : {M : Type 1} {𝓤 : URA M} {H : Heap 𝓤} {A : Atoms 𝓤} {K : Type 0} {W : Given 𝓤 H A}
+    {Γ : List (Item 𝓤)} {G : Goal 𝓤 H} → K → (m : HintMap) → MapIs m →
+    Step K W (‵ (Map.the-row .own m (map-vals m)) ∷ Γ) G Γ G
+owned-map {𝓤 = 𝓤} {H = H} {A = A} t m m-is =
+    owned t Map.the-row (Is Map.the-row) (Struct.makes Map.the-type Map′.the-plain 𝓤 H A) m (map-vals m) m-is
 
 -- what a covered function gives, asks and says of a map and a number
 pub record Covered {M : Type 1} (𝓤 : URA M) : Type 2 where
@@ -80,9 +89,7 @@ module _ {M : Type 1} {𝓤 : URA M} (H : Heap 𝓤) (A : Atoms 𝓤) (F : Cover
       use1 W (raw (F .asks m n)) asked $
       nothing ! $
       owned ! usize (Is usize) (uint-makes 𝓤 H A W w64) n _ (refl, fits) $
-      fjoin ! $
-      owned ! Map.the-row (Is Map.the-row) (Struct.makes Map.the-type Map′.the-plain 𝓤 H A) m _ m-is $
-      fjoin ! $ nothing ! $ join ! $ done !
+      fjoin ! $ owned-map ! m m-is $ fjoin ! $ nothing ! $ join ! $ done !
 
   abbrev left : HintMap → ℕ → Val → Item 𝓤
   left m n w =
@@ -102,7 +109,7 @@ module _ {M : Type 1} {𝓤 : URA M} {H : Heap 𝓤} {A : Atoms 𝓤} {K : Type 
   pub calls-covered : K → FmC 𝓤 H (W .laws) C → (F : Covered 𝓤) → Triple 𝓤 (C f) (Called H A F) →
       (m : HintMap) (n : ℕ) → MapIs m → n < 2 ^ 64 → ent 𝓤 (emp 𝓤) (F .asks m n) →
       Opds K W (raw (Called H A F .pre (given H A F m n)) ∷ Γ) E xs
-      (Struct.val Map.the-type Map′.the-laws m ∷ vint w64 n ∷ []) →
+      (map-val m ∷ vint w64 n ∷ []) →
       ((w : Val) (r : F .Result .Denot) → F .says m n r → Is (F .Result) r (w ∷ []) →
       Seq K W Γ (lands C Λ E d w rest q)) →
       Seq K W Γ (runs C Λ E (seq (call f xs d) rest) q)

@@ -25,7 +25,7 @@ use prog.Wp.{Heap, Out, Env, afterSeq, afterBlock, afterTurn, Calls, Loops, Wp, 
 use ghost.Atoms.{Atoms}
 use contract.Monad.{Fun, fact, factI}
 use contract.Running.{givenOf, tables, tablesOf}
-use types.Kit.{Given, Item, ‵, _⊛_, ⋆, runs, anyQ, atRet, Sq, _$_, _∵_, !, qed, by, move, keep, drop}
+use types.Kit.{Given, Item, ‵, _⊛_, ⋆, runs, anyQ, atRet, Sq, _$_, _∵_, !, qed, by, move, drop}
 use types.Kit.{split, join, rewrite, fsplit, fjoin, suffices, frame, done}
 use types.Run.{look, init, store, store-raw, forget, stop, hop, fld, from, load, lit, of-opd, bin, and-then, no-more}
 use types.Run.{assigns, assigns-last, land, first, skips, jumps, blocks, branches, returns, enter, alloc1, alloc0}
@@ -77,7 +77,7 @@ use Rattle.listing.proofs.list.list_edges.Statement.{statement}
 use Rattle.listing.proofs.list.list_edges.Code as code
 use Rattle.listing.proofs.list.list_edges.Code.Mir as body
 use Rattle.listing.proofs.Answers.{Stand, listed-fits, listed-stand}
-use Rattle.listing.proofs.Call.{map-vals, MapIs, Covered, Called, calls-covered}
+use Rattle.listing.proofs.Call.{map-val, map-vals, MapIs, owned-map, Covered, Called, calls-covered}
 use Rattle.listing.proofs.Locals.{type-of, after, found, copied}
 use Rattle.listing.proofs.Written.{written, written-length, written-over}
 
@@ -153,9 +153,6 @@ module _ {M : Type 1} (𝓤 : URA M) (H : Heap 𝓤) (A : Atoms 𝓤) (W : Given
   abbrev list-val : Val
   list-val = sliceVal (b, o) (length lent)
 
-  abbrev map-val : Val
-  map-val = Struct.val Map.the-type Map′.the-laws m
-
   abbrev args : HintMap × (RefT (List EdgeRecord) × Unit {0})
   args = (m, (list lent, tt))
 
@@ -210,9 +207,7 @@ module _ {M : Type 1} (𝓤 : URA M) (H : Heap 𝓤) (A : Atoms 𝓤) (W : Given
       fjoin ! $
       pureI ! (at-slice Edge.the-row (list (now i)) (list-val ∷ [])) (tt, (tt, tt))
       (ap (λ (k : ℕ). sliceVal (b, o) k ∷ []) (sym same), subst (Room Edge.the-row) (sym same) room) $
-      fjoin ! $ nothing ! $ move ! (1 ∷ 0 ∷ []) $ fjoin ! $
-      owned ! Map.the-row (Is Map.the-row) (Struct.makes Map.the-type Map′.the-plain 𝓤 H A) m _ m-is $
-      fjoin ! $
+      fjoin ! $ nothing ! $ move ! (1 ∷ 0 ∷ []) $ fjoin ! $ owned-map ! m m-is $ fjoin ! $
       owned ! Answer.the-row (Is Answer.the-row) (Enum.makes Answer.the-type Answer′.the-plain 𝓤 H A) r (w ∷ []) r-is $
       move ! (1 ∷ 0 ∷ []) $ done !
 
@@ -266,7 +261,7 @@ module _ {M : Type 1} (𝓤 : URA M) (H : Heap 𝓤) (A : Atoms 𝓤) (W : Given
           ‵ (fat fullShare word-ty l₄ 0 (vint w64 n)) ∷ ‵ (fdies word-ty l₄) ∷
           ‵ (fat fullShare word-ty l₃ 0 (vint w64 (length lent))) ∷ ‵ (fdies word-ty l₃) ∷
           ‵ (fat fullShare list-ty l₂ 0 list-val) ∷ ‵ (fdies list-ty l₂) ∷
-          ‵ (fat fullShare map-ty l₁ 0 map-val) ∷ ‵ (fdies map-ty l₁) ∷
+          ‵ (fat fullShare map-ty l₁ 0 (map-val m)) ∷ ‵ (fdies map-ty l₁) ∷
           ‵ (froom answer-ty l₀ 0) ∷ ‵ (fdies answer-ty l₀) ∷ [])
 
       abbrev Left : Out → SProp 𝓤
@@ -299,7 +294,7 @@ module _ {M : Type 1} (𝓤 : URA M) (H : Heap 𝓤) (A : Atoms 𝓤) (W : Given
           elem-out ! Edge.the-row (Is Edge.the-row) (shows 𝓤 H A Edge.the-row)
           (Struct.vals Edge.the-type Edge′.the-laws) (Struct.tells Edge.the-type Edge′.the-laws) fullShare (now (i .0))
           (i .0) (recordOf noHint) b o (inside less) (λ _.
-          -- list[i], what it owns, the others, the open borrow, what observes and what sets the list
+          -- list[i], what it owns, the others, the open borrow, what observes and what sets it
           assigns ! (of-opd ! (copied ! 12 refl)) (from ! (hop ! (look ! 6 refl) (stop !)))
           (store-raw ! 0 refl (Struct.lawful Edge.the-type Edge′.the-laws 𝓤 H A W .typed r _ r-is .0)) $
           move ! (1 ∷ []) $ drop ! $
@@ -342,11 +337,11 @@ module _ {M : Type 1} (𝓤 : URA M) (H : Heap 𝓤) (A : Atoms 𝓤) (W : Given
           inside less = omega (arith, below less, n-room, written-length lent (recordAt m) (i .0))
 
     walk : ent 𝓤 (onEntry 𝓤 H A list-edges.signature (κ, tt) (q, tt) args vals)
-        (WpFn 𝓤 H C Λ code.function (map-val ∷ list-val ∷ []) Post)
+        (WpFn 𝓤 H C Λ code.function (map-val m ∷ list-val ∷ []) Post)
     walk =
         qed W
         ((‵ (flft κ q) ⊛ ‵ ftrue) ∷ ‵ (owns (Map.the-row ∷ MutSlice (named 0) κ Edge.the-row ∷ []) args vals) ∷ []) ∵
-        enter ! C Λ code.function (map-val ∷ list-val ∷ []) _ $
+        enter ! C Λ code.function (map-val m ∷ list-val ∷ []) _ $
         alloc1 ! (λ l₀. alloc1 ! (λ l₁. alloc1 ! (λ l₂. alloc1 ! (λ l₃. alloc1 ! (λ l₄. alloc1 ! (λ l₅.
         alloc1 ! (λ l₆. alloc1 ! (λ l₇. alloc1 ! (λ l₈. alloc1 ! (λ l₉. alloc0 ! $
         params1 ! $
