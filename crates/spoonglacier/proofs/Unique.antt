@@ -1,11 +1,15 @@
 -- Any two outcomes that meet the contract of an exported function are equal, over that contract as
--- the toolchain reads it: number, place, bytes written and the whole buffer. Assumes nothing.
+-- the toolchain reads it: number, place, bytes written or the summary's counts, and the whole
+-- buffer. Assumes nothing.
 use mathlib.Core.Path.{_≡_, sym, _∙_}
 use borrow.Fn.Kinds.{endedOf}
 use borrow.Fn.World.{ArgsD, ResD}
 use contract.Lifetimes.{Lfts}
 use denote.Triple.Clauses.{AtExit}
 use denote.Ref.{now}
+use Rattle.spoonglacier.proofs.spoonglacier_edges as edges
+use Rattle.spoonglacier.proofs.spoonglacier_edges.Kinds as edges-kinds
+use Rattle.spoonglacier.proofs.spoonglacier_edges.Reads as edges-reads
 use Rattle.spoonglacier.proofs.spoonglacier_write as write
 use Rattle.spoonglacier.proofs.spoonglacier_write.Kinds as write-kinds
 use Rattle.spoonglacier.proofs.spoonglacier_write.Reads as write-reads
@@ -28,4 +32,17 @@ module _ (κs : Lfts 6) (a : ArgsD write.signature κs) (r r′ : ResD write.sig
   write-unique p q = (
     p .number ∙ sym (q .number),
     (p .memory ∙ sym (q .memory), (p .written ∙ sym (q .written), p .place ∙ sym (q .place))),
+  )
+
+module _ (κs : Lfts 7) (a : ArgsD edges.signature κs) (r r′ : ResD edges.signature κs)
+    (x x′ : AtExit (endedOf 7 edges-kinds.ps edges-kinds.r) κs) where
+  pub edges-unique : edges-reads.Post κs a r x → edges-reads.Post κs a r′ x′ →
+      (r ≡ r′) × ((now (x .1 .1 .0) ≡ now (x′ .1 .1 .0)) × ((now (x .1 .1 .1 .0) ≡ now (x′ .1 .1 .1 .0)) ×
+      ((now (x .1 .1 .1 .1 .0) ≡ now (x′ .1 .1 .1 .1 .0)) × ((now (x .1 .1 .1 .1 .1 .0) ≡ now (x′ .1 .1 .1 .1 .1 .0)) ×
+      ((now (x .1 .1 .1 .1 .1 .1 .0) ≡ now (x′ .1 .1 .1 .1 .1 .1 .0)) ×
+      (now (x .1 .1 .1 .1 .1 .1 .1 .0) ≡ now (x′ .1 .1 .1 .1 .1 .1 .1 .0)))))))
+  edges-unique p q = (
+    p .number ∙ sym (q .number),
+    (p .memory ∙ sym (q .memory), (p .edges ∙ sym (q .edges), (p .pairs ∙ sym (q .pairs),
+    (p .ghosts ∙ sym (q .ghosts), (p .locked ∙ sym (q .locked), p .place ∙ sym (q .place)))))),
   )

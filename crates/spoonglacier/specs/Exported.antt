@@ -19,11 +19,12 @@ pub record WriteReturned (o : WriteResult) (said : ℕ) (left : List ℕ) (bytes
   pub written : bytes ≡ writtenBytes (o .answer)
   pub place : at ≡ writePlace (o .answer)
 
-pub record EdgesReturned (o : SeenResult) (said : ℕ) (left : List ℤ) (edges pairs ghosts locked at : ℕ) : Type 0 where
+pub record EdgesReturned (o : SeenResult) (said : ℕ) (left : List ℤ) (edgeCount pairCount ghostCount lockedCount at : ℕ)
+    : Type 0 where
   pub number : said ≡ seenNumber (o .answer)
   pub memory : left ≡ o .left
-  pub edges : edges ≡ seenSummary (o .answer) .edges
-  pub pairs : pairs ≡ seenSummary (o .answer) .pairs
-  pub ghosts : ghosts ≡ seenSummary (o .answer) .ghosts
-  pub locked : locked ≡ seenSummary (o .answer) .locked
+  pub edges : edgeCount ≡ seenSummary (o .answer) .edges
+  pub pairs : pairCount ≡ seenSummary (o .answer) .pairs
+  pub ghosts : ghostCount ≡ seenSummary (o .answer) .ghosts
+  pub locked : lockedCount ≡ seenSummary (o .answer) .locked
   pub place : at ≡ seenPlace (o .answer)
