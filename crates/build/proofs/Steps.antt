@@ -34,7 +34,7 @@ use Rattle.build.specs.Place.{preparedBy, preparedOf, putBy, lockedBy, l
 like-lifted : (e : Hint) (by : Fixed) → Like e (lifted e by)
 like-lifted e by =
     let k = capture-keeps e by in
-    record { kind = sym (k .kind); index = sym (k .index); level = sym (k .height) }
+    record { kind = sym (k .kind); synthetic = sym (k .synthetic); index = sym (k .index); level = sym (k .height) }
 
 module _ (st : HintState) (x : StemHint) (i : ℕ) where
   abbrev own : Side → Hint

@@ -7,12 +7,12 @@ use lib.Signed.{_≤ℤ_}
 use Rattle.fixed.specs.declared.Fixed.{Fixed}
 use Rattle.fixed.proofs.Order.{heights}
 use Rattle.stems.specs.declared.edge.Hint.{Hint}
-use Rattle.stems.specs.Edge.{noHint, pairK, atDevice}
+use Rattle.stems.specs.Edge.{noHint, validK, pairK, atDevice}
 use Rattle.hintmap.specs.WholeStems.{Past, WholeStems, none, one, two, Like, Alike, nil, cons}
 
 -- an edge moved on the device differs there only
 pub like-device : (x : Hint) (d : Fixed) → Like x (atDevice x d)
-like-device x d = record { kind = refl; index = refl; level = refl }
+like-device x d = record { kind = refl; synthetic = refl; index = refl; level = refl }
 
 -- an edge is like itself
 pub like-refl : (x : Hint) → Like x x
@@ -32,8 +32,12 @@ alike-append (cons p a) b = cons p (alike-append a b)
 pub alike-trans : {xs ys zs : List Hint} → Alike xs ys → Alike ys zs → Alike xs zs
 alike-trans nil nil = nil
 alike-trans (cons p a) (cons q b) =
-    cons (record { kind = p .kind ∙ q .kind; index = p .index ∙ q .index; level = p .level ∙ q .level })
-    (alike-trans a b)
+    cons (record {
+      kind = p .kind ∙ q .kind;
+      synthetic = p .synthetic ∙ q .synthetic;
+      index = p .index ∙ q .index;
+      level = p .level ∙ q .level;
+    }) (alike-trans a b)
 
 -- an edge stored that differs on the device only
 pub alike-set : (es : List Hint) (k : ℕ) (e : Hint) → Like (getD es k noHint) e → Alike es (set es k e)
@@ -62,11 +66,14 @@ order-like p q l = omega heights
 pub stems-alike : {xs ys : List Hint} → Alike xs ys → WholeStems xs → WholeStems ys
 stems-alike nil none = none
 stems-alike (cons p a) (one s f r) =
-    one (record { single = sym (ap pairK (p .kind)) ∙ s .single }) (past-like _ _ (p .level) a f) (stems-alike a r)
+    one (record { present = sym (ap validK (p .kind)) ∙ s .present; single = sym (ap pairK (p .kind)) ∙ s .single })
+    (past-like _ _ (p .level) a f) (stems-alike a r)
 stems-alike (cons p (cons q a)) (two s o f r) =
     two (record {
       bottom = sym (p .kind) ∙ s .bottom;
       top = sym (q .kind) ∙ s .top;
       own = sym (p .index) ∙ s .own ∙
           q .index;
+      bottomReal = sym (p .synthetic) ∙ s .bottomReal;
+      topReal = sym (q .synthetic) ∙ s .topReal;
     }) (order-like (p .level) (q .level) o) (past-like _ _ (q .level) a f) (stems-alike a r)

@@ -1,6 +1,6 @@
 -- What whole stems say of each place in a map's list: demand 3's sentences. Assumes nothing.
 use mathlib.Core.Path.{_≡_, sym, ap, _∙_}
-use mathlib.Core.Bool.{true, true≢false}
+use mathlib.Core.Bool.{true, false, true≢false}
 use mathlib.Core.List.{List, [], _∷_}
 use mathlib.Core.Logic.{_⊎_, inl, inr, ⊎-elim}
 use Prim.Native.Nat.{ℕ, zero, suc, _+_, _-_, _<_}
@@ -12,7 +12,7 @@ use Rattle.fixed.specs.declared.Fixed.{Fixed}
 use Rattle.fixed.proofs.Order.{heights}
 use Rattle.stems.specs.declared.edge.Kind.the-variants.{PairBottom, PairTop}
 use Rattle.stems.specs.declared.edge.Hint.{Hint}
-use Rattle.stems.specs.Edge.{noHint, pairK, pairTopK}
+use Rattle.stems.specs.Edge.{noHint, validK, pairK, pairTopK, isValid, isPair}
 use Rattle.hintmap.specs.WholeStems.{height, Single, Pair, Past, WholeStems, none, one, two, Ascends}
 
 -- ---- heights never fall
@@ -112,3 +112,23 @@ shared {es} r i l e =
   where
     level : {a b : Fixed} → a .bits <ℤ b .bits → a ≡ b → ⊥
     level p q = omega heights
+
+-- ---- every edge
+-- none is absent
+pub present : {es : List Hint} → WholeStems es → (i : ℕ) → i < length es → isValid (getD es i noHint) ≡ true
+present none i l = absurd (omega arith)
+present (one s f r) zero l = s .present
+present (one s f r) (suc i) l = present r i (omega arith)
+present (two s o f r) zero l = ap validK (s .bottom)
+present (two s o f r) (suc zero) l = ap validK (s .top)
+present (two s o f r) (suc (suc i)) l = present r i (omega arith)
+
+-- those of pairs are not synthetic
+pub pair-real : {es : List Hint} → WholeStems es → (i : ℕ) → i < length es → isPair (getD es i noHint) ≡ true →
+    getD es i noHint .synthetic ≡ false
+pair-real none i l k = absurd (omega arith)
+pair-real (one {x} s f r) zero l k = absurd (not-single x k s)
+pair-real (one s f r) (suc i) l k = pair-real r i (omega arith) k
+pair-real (two s o f r) zero l k = s .bottomReal
+pair-real (two s o f r) (suc zero) l k = s .topReal
+pair-real (two s o f r) (suc (suc i)) l k = pair-real r i (omega arith) k

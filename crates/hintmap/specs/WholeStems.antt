@@ -1,8 +1,8 @@
 -- What holds of the edges of every map: they are single edges and whole stems, each wholly above
--- the one before. So neighbours share a height only as bottom and top of one stem, and every pair's
--- bottom is directly followed by its own top.
+-- the one before. So none is absent, neighbours share a height only as bottom and top of one stem,
+-- and every pair's bottom is directly followed by its own top.
 use mathlib.Core.Path.{_≡_}
-use mathlib.Core.Bool.{false}
+use mathlib.Core.Bool.{true, false}
 use mathlib.Core.List.{List, [], _∷_}
 use Prim.Native.Nat.{ℕ, _≤_, _<_}
 use lib.ListN.{length, getD}
@@ -12,21 +12,24 @@ use Rattle.stems.specs.declared.edge.Kind.the-variants.{PairBottom, PairTop}
 use Rattle.stems.specs.declared.edge.Hint.{Hint}
 use Rattle.hintmap.specs.declared.insert.Edges.{Edges}
 use Rattle.hintmap.specs.declared.insert.Edges.the-variants.{One, Two}
-use Rattle.stems.specs.Edge.{noHint, isPair}
+use Rattle.stems.specs.Edge.{noHint, isValid, isPair}
 
 -- an edge's character height
 abbrev pub height : Hint → Fixed
 height x = x .«cs_coord»
 
--- an edge that is no part of a pair
+-- an edge that is there, and is no part of a pair
 pub record Single (x : Hint) : Type 0 where
+  pub present : isValid x ≡ true
   pub single : isPair x ≡ false
 
--- the bottom and the top of one stem
+-- the bottom and the top of one stem, neither of them synthetic
 pub record Pair (b t : Hint) : Type 0 where
   pub bottom : b .kind ≡ PairBottom
   pub top : t .kind ≡ PairTop
   pub own : b .index ≡ t .index
+  pub bottomReal : b .synthetic ≡ false
+  pub topReal : t .synthetic ≡ false
 
 -- the first edge, if there is one, is above z
 unfoldable pub Past : Fixed → List Hint → Type 0
@@ -61,6 +64,7 @@ Above es h = (j : ℕ) → j < length es → h .bits <ℤ height (getD es j noHi
 -- two edges that differ on the device only, and two lists of such
 pub record Like (x y : Hint) : Type 0 where
   pub kind : x .kind ≡ y .kind
+  pub synthetic : x .synthetic ≡ y .synthetic
   pub index : x .index ≡ y .index
   pub level : height x ≡ height y
 

@@ -11,3 +11,5 @@ pub mod Moves
 pub mod Baseline
 pub mod WholeRecords
 pub mod Scales
+pub mod Listed
+pub mod Sources

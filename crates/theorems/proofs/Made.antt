@@ -31,7 +31,8 @@ pub record Made (Was : Drawing → Type 0) (st : HintState) (d : Drawing) : Type
   pub map : d .hints .map .«is_valid» ≡ true → MapMade Was st d
   pub waiting : (at device : Point) → d .pen .waiting ≡ Waits at device → LineMade Was st at device
 
-never : {A : Type 0} → false ≡ true → A
+-- what is invalid is not valid
+pub never : {A : Type 0} → false ≡ true → A
 never e = absurd (true≢false (sym e))
 
 no-line : {A : Type 0} (at device : Point) → NoLine ≡ Waits at device → A

@@ -4,3 +4,4 @@ pub mod Demand3
 pub mod Lone
 pub mod Fitting
 pub mod WholeRecords
+pub mod Listed
