@@ -33,11 +33,7 @@ module _ (st : HintState) (s part : List ℕ) (first n from commands : ℕ) wher
   -- before the first command
   pub looking : Runnable s part first n from → {left : ℕ} → left ≡ commands → Looking (newHints (st .scale)) 0 left
   looking r l =
-      record {
-        sound = sound s part first n from r;
-        pen = newPen;
-        whole = rw (l, ← calls-start s part first n from);
-      }
+      record { sound = sound s part first n from r; pen = newPen; whole = rw (l, ← calls-start s part first n from) }
 
 module _ {st : HintState} {s part : List ℕ} {first n from commands : ℕ} {h : Hints} {at left : ℕ}
     (g : Looking st s part first n from commands h at left) where
@@ -48,7 +44,7 @@ module _ {st : HintState} {s part : List ℕ} {first n from commands : ℕ} {h :
   turn i {m} l {c} e q =
       let pen′ = strokeOf st h (g .pen) (callOf s from c) .pen in
       record {
-        sound = sound-behind s part first n from (g .sound) i;
+        sound = sound-behind (g .sound) i;
         pen = pen′;
         whole =
             ap (λ (x : Hints). drawingAfter st (drawingOf x pen′) (take m (callsAt s part first n from

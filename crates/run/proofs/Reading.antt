@@ -61,17 +61,17 @@ module _ (s part : List ℕ) (first n from : ℕ) where
       let e = from-start first (rawAt part) n in
       record { bytes = r .bytes; inside = r .inside; fine = rw e at (r .faultless) }
 
-  module _ {at : ℕ} (g : Sound at) (i : at < n) where
-    pub sound-behind : Sound (nextAt (rawAt part) at)
-    sound-behind =
-        record {
-          bytes = g .bytes;
-          inside = g .inside;
-          fine = faultless first (rawAt part) n (g .bytes) at i (g .fine) .1 .1;
-        }
+module _ {s part : List ℕ} {first n from at : ℕ} (g : Sound s part first n from at) (i : at < n) where
+  pub sound-behind : Sound s part first n from (nextAt (rawAt part) at)
+  sound-behind =
+      record {
+        bytes = g .bytes;
+        inside = g .inside;
+        fine = faultless first (rawAt part) n (g .bytes) at i (g .fine) .1 .1;
+      }
 
-    -- the mask that a command names lies in the script
-    pub mask-there : {m : Marking} → readAt (rawAt part) n at .command ≡ Mark m → from + maskEnd m ≤ length s
-    mask-there {m} e =
-        let b = faultless first (rawAt part) n (g .bytes) at i (g .fine) .1 .0 in
-        omega (arith, g .inside, end-inside (g .bytes) m (ap (hasBadMask (g .bytes)) (sym e) ∙ b))
+  -- the mask that a command names lies in the script
+  pub mask-there : {m : Marking} → readAt (rawAt part) n at .command ≡ Mark m → from + maskEnd m ≤ length s
+  mask-there {m} e =
+      let b = faultless first (rawAt part) n (g .bytes) at i (g .fine) .1 .0 in
+      omega (arith, g .inside, end-inside (g .bytes) m (ap (hasBadMask (g .bytes)) (sym e) ∙ b))

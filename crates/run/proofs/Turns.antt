@@ -66,69 +66,58 @@ module _ (st : HintState) (s part : List ℕ) (first n from : ℕ) where
   pub going : Runnable s part first n from → (out : List ℤ) → Going out (newHints (st .scale)) newPen 0 0 out
   unfolding allSteps
   going r out =
-      record {
-        stands =
-            record {
-              along =
-                  following (ap (stepsOf st (newDrawing (st .scale))) (calls-start s part first n from))
-                  (begun allSteps out);
-            };
-        sound = sound s part first n from r;
-      }
+      let e = ap (stepsOf st (newDrawing (st .scale))) (calls-start s part first n from) in
+      record { stands = record { along = following e (begun allSteps out) }; sound = sound s part first n from r }
 
-  module _ {out₀ : List ℤ} {h : Hints} {pen : Pen} {next at : ℕ} {out : List ℤ} (g : Going out₀ h pen next at out)
-      (i : at < n) where
+  -- where it ends is what a run gives
+  abbrev pub Gives : List ℤ → Answer → ℕ → List ℤ → Type 0
+  Gives out₀ answer next out =
+      Ended (ranOf st (callsOf s from (commandsOf first (rawAt part) n)) out₀)
+      (record { answer = answer; words = next }) out
+
+  gives : {out₀ : List ℤ} {answer : Answer} {next : ℕ} {out : List ℤ} → Stopped allSteps out₀ answer next out →
+      Gives out₀ answer next out
+  unfolding ranOf allSteps
+  gives p = record { answer = says (p .said); words = p .count; memory = p .left }
+
+module _ {st : HintState} {s part : List ℕ} {first n from : ℕ} {out₀ : List ℤ} {h : Hints} {pen : Pen} {next at : ℕ}
+    {out : List ℤ} (g : Going st s part first n from out₀ h pen next at out) where
+  module _ (i : at < n) where
     -- the calls from the command at a word on
     calls : {c : Command} → readAt (rawAt part) n at .command ≡ c →
-        Standing st allSteps out₀ (record { place = first + at; call = callOf s from c } ∷
+        Standing st (allSteps st s part first n from) out₀ (record { place = first + at; call = callOf s from c } ∷
         callsAt s part first n from (nextAt (rawAt part) at)) h pen next out
     calls e = standing (calls-first s part first n from i e) (g .stands)
 
-    -- behind that command
-    behind : {k : Hints} {pen′ : Pen} {next′ : ℕ} {out′ : List ℤ} →
-        Standing st allSteps out₀ (callsAt s part first n from (nextAt (rawAt part) at)) k pen′ next′ out′ →
-        Going out₀ k pen′ next′ (nextAt (rawAt part) at) out′
-    behind d = record { stands = d; sound = sound-behind s part first n from (g .sound) i }
-
     -- a command that writes nothing
     pub turn-mark : {m : Marking} → readAt (rawAt part) n at .command ≡ Mark m →
-        Going out₀ (hintsOf st h (markCall s from m)) pen next (nextAt (rawAt part) at) out
-    turn-mark {m} e = behind (marked (calls e) (mark-still st h pen s from m))
+        Going st s part first n from out₀ (hintsOf st h (markCall s from m)) pen next (nextAt (rawAt part) at) out
+    turn-mark {m} e =
+        record { stands = marked (calls e) (mark-still st h pen s from m); sound = sound-behind (g .sound) i }
 
     -- a call that wants a map
     pub turn-ready : {path : Path} → readAt (rawAt part) n at .command ≡ Draw path → hasPoint path ≡ true →
-        Going out₀ (readyOf st h) pen next at out
+        Going st s part first n from out₀ (readyOf st h) pen next at out
     turn-ready e w =
-        record {
-          stands = standing (sym (calls-first s part first n from i e)) (readied (calls e) w);
-          sound = g .sound;
-        }
+        record { stands = standing (sym (calls-first s part first n from i e)) (readied (calls e) w); sound = g .sound }
 
     module _ {path : Path} (e : readAt (rawAt part) n at .command ≡ Draw path)
         (w : wantsMap (h .map .«is_valid») path ≡ false) where
       -- a call that wrote its words
       pub turn-drew : {said : Drawn} {k : ℕ} {exit : List ℤ} →
           DrewWords (strokeBy (h .map) (st .scale) pen path) (drop next out) said k exit →
-          Going out₀ h (said .pen) (next + k) (nextAt (rawAt part) at) (take next out ++ exit)
-      turn-drew d = behind (drew (calls e) w d)
+          Going st s part first n from out₀ h (said .pen) (next + k) (nextAt (rawAt part) at) (take next out ++ exit)
+      turn-drew d = record { stands = drew (calls e) w d; sound = sound-behind (g .sound) i }
 
       -- and one that did not
       pub turn-refused : {said : Drawn} {exit : List ℤ} →
           DrewNothing (strokeBy (h .map) (st .scale) pen path) pen (drop next out) said exit →
-          Stopped allSteps out₀ (NoRoom (first + at)) next out
-      turn-refused d = denied (calls e) w d
+          Gives st s part first n from out₀ (NoRoom (first + at)) next out
+      turn-refused d = gives st s part first n from (denied (calls e) w d)
 
   -- after the last command
-  pub turn-done : {out₀ : List ℤ} {h : Hints} {pen : Pen} {next at : ℕ} {out : List ℤ} → Going out₀ h pen next at out →
-      n ≤ at → Stopped allSteps out₀ Ok next out
-  turn-done g i = finished (standing (calls-none s part first n from i) (g .stands))
-
-  -- where it ends is what a run gives
-  pub ended : {out₀ : List ℤ} {answer : Answer} {next : ℕ} {out : List ℤ} → Stopped allSteps out₀ answer next out →
-      Ended (ranOf st (callsOf s from (commandsOf first (rawAt part) n)) out₀)
-      (record { answer = answer; words = next }) out
-  unfolding ranOf allSteps
-  ended p = record { answer = says (p .said); words = p .count; memory = p .left }
+  pub turn-done : n ≤ at → Gives st s part first n from out₀ Ok next out
+  turn-done i = gives st s part first n from (finished (standing (calls-none s part first n from i) (g .stands)))
 
 -- ---- a map is made at most once for a call
 abbrev pub unready : Bool → ℕ

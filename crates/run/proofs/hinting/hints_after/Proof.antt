@@ -119,10 +119,8 @@ marked-requires : tie.Need-marked-requires Inv-loop μ-loop
 marked-requires c κs =
     let m = c .before .before .before in
     let r = m .before .before in
-    let l = here r in
-    let a = begin l .args in
-    mask-there (a .script .now) (drop (4 * a .first) (a .script .now)) (a .first) (a .n) (a .from) (l .loop .inv .sound)
-    (r .before .before .if1 .left) (ap (λ (x : Read). x .command) (sym (read-is r)) ∙ m .command .given .1)
+    mask-there (here r .loop .inv .sound) (r .before .before .if1 .left)
+    (ap (λ (x : Read). x .command) (sym (read-is r)) ∙ m .command .given .1)
 
 enum-known-command-2 : tie.Need-enum-known-command-2 Inv-loop μ-loop
 enum-known-command-2 c = search needs

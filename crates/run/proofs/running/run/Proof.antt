@@ -23,7 +23,7 @@ use Rattle.run.specs.Run.{wantsMap}
 use Rattle.run.proofs.Filling.{back}
 use Rattle.run.proofs.Reading.{mask-there}
 use Rattle.run.proofs.Turns.{close-idle, Going, going, turn-mark, turn-ready, turn-drew}
-use Rattle.run.proofs.Turns.{turn-refused, turn-done, ended, unready, unready-one, wanted}
+use Rattle.run.proofs.Turns.{turn-refused, turn-done, unready, unready-one, wanted}
 use Rattle.run.proofs.running.run.Statement.{statement}
 use Rattle.run.proofs.running.run.Tie as tie
 
@@ -137,16 +137,12 @@ loop-again c =
     let a = begin l .args in
     let e = close-idle (a .state) (l .loop .hints) (a .script .now) (a .from) (m .command .given .0 .0)
     (sym (c .before .is-close .ensures) ∙ c .if1 .taken) in
-    rw (moved r) (rw e at (turn-mark (a .state) (a .script .now) (a .part .now) (a .first) (a .n) (a .from)
-    (l .loop .inv) (r .before .loop-test .taken) (mark-is m)))
+    rw (moved r) (rw e at (turn-mark (l .loop .inv) (r .before .loop-test .taken) (mark-is m)))
 
 marked-requires : tie.Need-marked-requires Inv-loop μ-loop
 marked-requires c κs =
     let m = c .before .before .before in
-    let l = mark-turn m in
-    let a = begin l .args in
-    mask-there (a .script .now) (a .part .now) (a .first) (a .n) (a .from) (l .loop .inv .sound)
-    (m .before .before .before .loop-test .taken) (mark-is m)
+    mask-there (mark-turn m .loop .inv .sound) (m .before .before .before .loop-test .taken) (mark-is m)
 
 loop-less-2 : tie.Need-loop-less-2 Inv-loop μ-loop
 loop-less-2 c =
@@ -158,11 +154,7 @@ loop-again-2 : tie.Need-loop-again-2 Inv-loop μ-loop
 loop-again-2 c =
     let m = c .before .before .before .before in
     let r = m .before .before in
-    let l = mark-turn m in
-    let a = begin l .args in
-    rw (c .marked .ensures, moved r)
-    (turn-mark (a .state) (a .script .now) (a .part .now) (a .first) (a .n) (a .from) (l .loop .inv)
-    (r .before .loop-test .taken) (mark-is m))
+    rw (c .marked .ensures, moved r) (turn-mark (mark-turn m .loop .inv) (r .before .loop-test .taken) (mark-is m))
 
 enum-known-command-2 : tie.Need-enum-known-command-2 Inv-loop μ-loop
 enum-known-command-2 c = search needs
@@ -186,10 +178,8 @@ loop-again-3 : tie.Need-loop-again-3 Inv-loop μ-loop
 loop-again-3 c =
     let w = c .before .before in
     let l = draw-turn w in
-    let a = begin l .args in
     let e = wanted (l .loop .hints .map .«is_valid») (path w) (sym (w .wants-map .ensures) ∙ c .before .if2 .taken) in
-    rw (c .ready .ensures) (turn-ready (a .state) (a .script .now) (a .part .now) (a .first) (a .n) (a .from)
-    (l .loop .inv) (draw-read w .before .loop-test .taken) (draw-is w) (e .1))
+    rw (c .ready .ensures) (turn-ready (l .loop .inv) (draw-read w .before .loop-test .taken) (draw-is w) (e .1))
 
 mul-draw : tie.Need-mul-draw Inv-loop μ-loop
 mul-draw c =
@@ -232,12 +222,9 @@ returns c =
     let d = c .before .before .before in
     let w = d .before .before .before in
     let l = call-turn d in
-    let a = begin l .args in
     let n = drew-refused (drew d) (c .enum-told .given .1) in
-    let s = turn-refused (a .state) (a .script .now) (a .part .now) (a .first) (a .n) (a .from) (l .loop .inv)
-    (draw-read w .before .loop-test .taken) (draw-is w) (no-map d) n in
-    ended (a .state) (a .script .now) (a .part .now) (a .first) (a .n) (a .from)
-    (rw (back (l .loop .next) (l .loop .out), n .left, take-append-drop (l .loop .next) (l .loop .out)) s)
+    rw (back (l .loop .next) (l .loop .out), n .left, take-append-drop (l .loop .next) (l .loop .out))
+    (turn-refused (l .loop .inv) (draw-read w .before .loop-test .taken) (draw-is w) (no-map d) n)
 
 add-next : tie.Need-add-next Inv-loop μ-loop
 add-next c =
@@ -269,22 +256,15 @@ loop-again-4 c =
     let d = c .before .before .before .before .before in
     let w = d .before .before .before in
     let l = call-turn d in
-    let a = begin l .args in
     let q = drew-wrote (drew d) (c .before .before .answer .given .0 .0) (c .before .before .answer .given .1) in
     rw (moved (draw-read w), back (l .loop .next) (l .loop .out))
-    (turn-drew (a .state) (a .script .now) (a .part .now) (a .first) (a .n) (a .from) (l .loop .inv)
-    (draw-read w .before .loop-test .taken) (draw-is w) (no-map d) q)
+    (turn-drew (l .loop .inv) (draw-read w .before .loop-test .taken) (draw-is w) (no-map d) q)
 
 same-length-2 : tie.Need-same-length-2 Inv-loop μ-loop
 same-length-2 c = c .before .loop .inv .stands .along .same
 
 returns-2 : tie.Need-returns-2 Inv-loop μ-loop
-returns-2 c =
-    let l = c .before in
-    let a = begin l .args in
-    let s = turn-done (a .state) (a .script .now) (a .part .now) (a .first) (a .n) (a .from) (l .loop .inv)
-    (omega arith) in
-    ended (a .state) (a .script .now) (a .part .now) (a .first) (a .n) (a .from) s
+returns-2 c = turn-done (c .before .loop .inv) (omega arith)
 
 pub run-spec : {M : Type 1} → statement M
 run-spec =
