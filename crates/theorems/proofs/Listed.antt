@@ -25,9 +25,8 @@ use Rattle.listing.specs.declared.answer.ListAnswer.{ListAnswer}
 use Rattle.listing.specs.declared.answer.ListAnswer.the-variants.{Listed, ListRoom}
 use Rattle.listing.specs.Records.{recordOf, edgeRecords, recordsOf, countOf, summaryOf}
 use Rattle.listing.specs.Listing.{listSummary, listAnswer, recordsIn, Lists}
-use Rattle.run.specs.Run.{Asked}
+use Rattle.script.specs.Script.{callsIn, mapAt}
 use Rattle.theorems.specs.Demand1.{Checked}
-use Rattle.theorems.specs.Demand3.{drawingIn}
 use Rattle.theorems.specs.Reached.{Reached}
 use Rattle.theorems.specs.Listed.{nth, OneOfFour, ghostBottom, ghostTop, pairBottom, pairTop, OwnTop, Summed}
 use Rattle.theorems.specs.Listed.{InOrder}
@@ -143,6 +142,7 @@ pub listing-in-order : {st : HintState} {d : Drawing} {list left : List EdgeReco
 listing-in-order {d = d} {list = list} r l =
     rw (l .answer, l .memory) (list-front (d .hints .map) (fine r .map) list)
 
--- so are the records after any of a script's calls
-pub listed-in : (s : List ℕ) → Checked s → (cs : List Asked) → InOrder (recordsOf (drawingIn s cs .hints .map))
-listed-in s k cs = listed (reached s k cs)
+-- so are the records after any number of a script's commands
+pub listed-in : (s : List ℕ) → Checked s → (k : ℕ) → InOrder (recordsOf (mapAt s k))
+unfolding mapAt
+listed-in s c k = listed (reached s c (take k (callsIn s)))
