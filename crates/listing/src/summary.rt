@@ -16,7 +16,7 @@ pub struct Summary {
 }
 
 impl Summary {
-    pub(crate) fn none() -> Summary
+    pub fn none() -> Summary
         ensures { λ r. ⌜ r ≡ noSummary ⌝ }
     {
         Summary {

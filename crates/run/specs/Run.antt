@@ -61,6 +61,12 @@ stepsOf st d [] = []
 stepsOf st d (c ∷ cs) =
     record { place = c .place; words = wordsFor st d (c .call) } ∷ stepsOf st (nextOf st d (c .call)) cs
 
+-- ---- the drawing that calls leave
+-- a drawing after some calls, each of them done
+unfoldable pub drawingAfter : HintState → Drawing → List Asked → Drawing
+drawingAfter st d [] = d
+drawingAfter st d (c ∷ cs) = drawingAfter st (nextOf st d (c .call)) cs
+
 -- ---- the run
 -- what a run answers, and the output that it leaves
 pub record Ending : Type 0 where

@@ -1,6 +1,8 @@
 // A run of commands over a new drawing, into an output (01, "The script").
+mod hinting;
 mod marks;
 mod running;
 
+pub use hinting::hints_after;
 pub use running::Ran;
 pub use running::run;

@@ -22,7 +22,7 @@ pub struct Ran {
 }
 
 // Whether a call has points, which the current map carries, and that map is not valid yet.
-fn wants_map(path: Path, valid: bool) -> bool
+pub(crate) fn wants_map(path: Path, valid: bool) -> bool
     ensures { λ r. ⌜ r ≡ wantsMap valid path ⌝ }
 {
     if valid {
@@ -37,7 +37,7 @@ fn wants_map(path: Path, valid: bool) -> bool
 }
 
 // Whether a command is a close, which leaves the hints as they are.
-fn is_close(marking: Marking) -> bool
+pub(crate) fn is_close(marking: Marking) -> bool
     ensures { λ r. ⌜ r ≡ isClose marking ⌝ }
 {
     match marking {

@@ -10,6 +10,8 @@ use lib.ListN.{length, take, drop}
 use Rattle.zones.specs.declared.state.HintState.{HintState}
 use Rattle.zones.specs.State.{stateOf}
 use Rattle.pen.specs.Records.{written}
+use Rattle.hintmap.specs.declared.map.HintMap.{HintMap}
+use Rattle.hints.specs.declared.drawing.Drawing.{Drawing}
 use Rattle.hints.specs.Calls.{newDrawing}
 use Rattle.words.specs.declared.answer.Answer.{Answer}
 use Rattle.words.specs.declared.answer.Answer.the-variants.{NoRoom}
@@ -22,7 +24,7 @@ use Rattle.commands.specs.Commands.{CommandAt, commandsOf}
 use Rattle.commands.specs.Faults.{commandRows}
 use Rattle.script.specs.Count.{recordsIn}
 use Rattle.run.specs.Room.{Step, Fitted, fitted}
-use Rattle.run.specs.Run.{Asked, callsOf, stepsOf}
+use Rattle.run.specs.Run.{Asked, callsOf, drawingAfter, stepsOf}
 
 -- ---- the tests
 -- the commands: as many words as word 5 says, from the offset in word 4 on
@@ -41,6 +43,14 @@ zonesOf s = stateOf (paramsOf (rawAt s)) (numberAt (rawAt s) 1)
 -- the commands as calls; the mask bytes start at the offset in word 6
 abbrev pub callsIn : List ℕ → List Asked
 callsIn s = callsOf s (4 * rawAt s 6) (commandsIn s)
+
+-- the new drawing of a script after some of its calls, each of them done
+abbrev pub drawingIn : List ℕ → List Asked → Drawing
+drawingIn s cs = drawingAfter (zonesOf s) (newDrawing (numberAt (rawAt s) 1)) cs
+
+-- the current map after the first k commands, or after all if there are fewer
+unfoldable pub mapAt : List ℕ → ℕ → HintMap
+mapAt s k = drawingIn s (take k (callsIn s)) .hints .map
 
 -- the record words of each call, over a new drawing
 unfoldable pub stepsIn : List ℕ → List Step

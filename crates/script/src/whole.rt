@@ -25,7 +25,7 @@ ghost use Rattle.script.specs.Script.{checkRows, zonesOf, stepsIn, scrip
 const RESULT_HEADER: usize = 4;
 
 // The zones of a script that passes all tests, made once.
-fn zones_of(script: &[u8]) -> HintState
+pub(crate) fn zones_of(script: &[u8]) -> HintState
     requires { ⌜ firstOf (checkRows (now script)) ≡ Ok ⌝ }
     ensures { λ r. ⌜ r ≡ zonesOf (now (script .entry)) ⌝ }
 {

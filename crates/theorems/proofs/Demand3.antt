@@ -27,12 +27,12 @@ use Rattle.words.proofs.Rows.{none-holds}
 use Rattle.header.specs.Params.{bluesAt, paramRows, paramsOf, WholeParams}
 use Rattle.header.proofs.Fine.{params-refusing}
 use Rattle.run.specs.Room.{Step}
-use Rattle.run.specs.Run.{Asked, stepsOf}
-use Rattle.script.specs.Script.{zonesOf, callsIn, stepsIn}
+use Rattle.run.specs.Run.{Asked, drawingAfter, stepsOf}
+use Rattle.script.specs.Script.{zonesOf, callsIn, drawingIn, stepsIn}
 use Rattle.script.proofs.Passed.{passed}
 use Rattle.theorems.specs.Reached.{Reached, opened, called, here, next, Earlier, afterRoom, counterMap, Demand3}
 use Rattle.theorems.specs.Demand1.{Checked}
-use Rattle.theorems.specs.Demand3.{drawingAfter, Along, drawingIn, OnTheWay}
+use Rattle.theorems.specs.Demand3.{Along, OnTheWay}
 use Rattle.theorems.proofs.Sound.{sound, Fine, fine, fine-ready, opened-new}
 use Rattle.theorems.proofs.Made.{Made, made-new, made-next, made-room, pointed}
 

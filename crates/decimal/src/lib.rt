@@ -1,0 +1,79 @@
+// Numbers as text: whole ones, and those in 16.16 with every digit that they have.
+use fixed::Fixed;
+use fixed::bits_of;
+ghost use Prim.Native.Nat.{_+_, _≤_, _<_};
+ghost use lib.ListN.{length};
+ghost use Rattle.decimal.specs.Decimal.{Put, numberText, fractionBy, sizeText, decimalText};
+
+// The most digits of a number of 32 bits, those of a fraction in 65536ths, and the most bytes of a
+// number in 16.16: a sign, the digits of 32768, a point and such a fraction.
+pub const MOST_DIGITS: usize = 10;
+
+pub const FRACTION_DIGITS: usize = 16;
+
+pub const DECIMAL_BYTES: usize = 23;
+
+// Puts some text at a place of some bytes; answers where it ends.
+pub fn put_text(out: &mut [u8], at: usize, text: &[u8]) -> usize
+    requires { ⌜ at + length (now text) ≤ length (now out) ⌝ }
+    ensures { λ r. ⌜ Put (now (text .entry)) at (now (out .entry)) r (now (out .exit)) ⌝ }
+{
+    let end = at + text.len();
+    words::copy_bytes(text, &mut out[at..end]);
+    end
+}
+
+// Puts the digits of a whole number.
+pub fn put_number(out: &mut [u8], at: usize, n: u32) -> usize
+    requires { ⌜ at + length (numberText n) ≤ length (now out) ⌝ }
+    ensures { λ r. ⌜ Put (numberText n) at (now (out .entry)) r (now (out .exit)) ⌝ }
+{
+    let mut next = at;
+    if 9 < n {
+        next = put_number(out, at, n / 10);
+    }
+    out[next] = 48 + (n % 10) as u8;
+    next + 1
+}
+
+// Puts the digits of a fraction in 65536ths, `left` of them at most.
+fn put_fraction(out: &mut [u8], at: usize, n: u32, left: usize) -> usize
+    requires { ⌜ (n < 65536) × (at + length (fractionBy left n) ≤ length (now out)) ⌝ }
+    ensures { λ r. ⌜ Put (fractionBy left n) at (now (out .entry)) r (now (out .exit)) ⌝ }
+{
+    if left == 0 {
+        return at;
+    }
+    if n == 0 {
+        return at;
+    }
+    let tens = 10 * n;
+    out[at] = 48 + (tens / 65536) as u8;
+    put_fraction(out, at + 1, tens % 65536, left - 1)
+}
+
+// Puts so many 65536ths.
+fn put_size(out: &mut [u8], at: usize, n: u32) -> usize
+    requires { ⌜ at + length (sizeText n) ≤ length (now out) ⌝ }
+    ensures { λ r. ⌜ Put (sizeText n) at (now (out .entry)) r (now (out .exit)) ⌝ }
+{
+    let point = put_number(out, at, n / 65536);
+    let rest = n % 65536;
+    if rest == 0 {
+        return point;
+    }
+    out[point] = 46;
+    put_fraction(out, point + 1, rest, FRACTION_DIGITS)
+}
+
+// Puts a number in 16.16, exactly.
+pub fn put_decimal(out: &mut [u8], at: usize, x: Fixed) -> usize
+    requires { ⌜ at + length (decimalText (x .bits)) ≤ length (now out) ⌝ }
+    ensures { λ r. ⌜ Put (decimalText (x .bits)) at (now (out .entry)) r (now (out .exit)) ⌝ }
+{
+    if x.bits < 0 {
+        out[at] = 45;
+        return put_size(out, at + 1, bits_of(x.neg().bits));
+    }
+    put_size(out, at, bits_of(x.bits))
+}
