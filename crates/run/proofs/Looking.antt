@@ -1,32 +1,25 @@
--- Laws of the hints that calls leave: they depend on no pen, and a command's call comes before the
--- calls behind it. Assumes nothing.
-use mathlib.Core.Path.{_≡_, refl, sym, ap, _∙_}
-use mathlib.Core.List.{List, [], _∷_}
-use Prim.Native.Nat.{ℕ, zero, suc, _≤_, _<_}
+-- Laws of a look at the hints that a script's commands leave, a command at a time. The drawing that
+-- they leave has a pen too, of which nothing is asked. Assumes nothing.
+use mathlib.Core.Path.{_≡_, sym, ap, _∙_}
+use mathlib.Core.List.{List}
+use Prim.Native.Nat.{ℕ, suc, _≤_, _<_}
 use lib.ListN.{take}
+use lib.Seq.{take-nil}
 use Rattle.zones.specs.declared.state.HintState.{HintState}
-use Rattle.hints.specs.declared.drawing.Drawing.{Drawing}
+use Rattle.pen.specs.declared.strokes.Pen.{Pen}
+use Rattle.pen.specs.Strokes.{newPen}
 use Rattle.hints.specs.declared.hints.Hints.{Hints}
 use Rattle.hints.specs.Hints.{newHints}
-use Rattle.hints.specs.Calls.{newDrawing, nextOf, hintsOf}
+use Rattle.hints.specs.Calls.{newDrawing, hintsOf, strokeOf}
 use Rattle.words.specs.Words.{rawAt}
 use Rattle.commands.specs.declared.reading.Command.{Command}
 use Rattle.commands.specs.Commands.{readAt, nextAt, commandsOf}
-use Rattle.run.specs.Run.{Asked, callOf, callsOf, drawingAfter, Runnable}
+use Rattle.run.specs.Run.{callOf, callsOf, drawingAfter, Runnable}
+use Rattle.run.proofs.Calls.{drawingOf}
 use Rattle.run.proofs.Reading.{callsAt, calls-start, calls-first, calls-none, Sound, sound, sound-behind}
 
--- the hints that calls leave
-abbrev pub hintsAfter : HintState → Hints → List Asked → Hints
-hintsAfter st h [] = h
-hintsAfter st h (c ∷ cs) = hintsAfter st (hintsOf st h (c .call)) cs
-
-no-pen : (st : HintState) (d : Drawing) (cs : List Asked) → drawingAfter st d cs .hints ≡ hintsAfter st (d .hints) cs
-unfolding drawingAfter
-no-pen st d [] = refl
-no-pen st d (c ∷ cs) = no-pen st (nextOf st d (c .call)) cs
-
--- ---- how a look at a script's hints stands
 module _ (st : HintState) (s part : List ℕ) (first n from commands : ℕ) where
+  -- the hints after the first so many commands
   abbrev pub asked : Hints
   asked =
       drawingAfter st (newDrawing (st .scale)) (take commands (callsOf s from (commandsOf first (rawAt part) n))) .hints
@@ -34,14 +27,16 @@ module _ (st : HintState) (s part : List ℕ) (first n from commands : ℕ) wher
   -- the hints here, and as many of the calls from word at on as are left, give those that are asked
   pub record Looking (h : Hints) (at left : ℕ) : Type 0 where
     pub sound : Sound s part first n from at
-    pub whole : hintsAfter st h (take left (callsAt s part first n from at)) ≡ asked
+    pub pen : Pen
+    pub whole : drawingAfter st (drawingOf h pen) (take left (callsAt s part first n from at)) .hints ≡ asked
 
   -- before the first command
   pub looking : Runnable s part first n from → {left : ℕ} → left ≡ commands → Looking (newHints (st .scale)) 0 left
   looking r l =
       record {
         sound = sound s part first n from r;
-        whole = rw (l, no-pen st (newDrawing (st .scale)) _, calls-start s part first n from) refl;
+        pen = newPen;
+        whole = rw (l, ← calls-start s part first n from);
       }
 
 module _ {st : HintState} {s part : List ℕ} {first n from commands : ℕ} {h : Hints} {at left : ℕ}
@@ -49,21 +44,22 @@ module _ {st : HintState} {s part : List ℕ} {first n from commands : ℕ} {h :
   -- behind a command, whose call leaves hints k
   pub turn : at < n → {m : ℕ} → left ≡ suc m → {c : Command} → readAt (rawAt part) n at .command ≡ c → {k : Hints} →
       hintsOf st h (callOf s from c) ≡ k → Looking st s part first n from commands k (nextAt (rawAt part) at) m
-  turn i {m} l e q =
+  unfolding drawingAfter
+  turn i {m} l {c} e q =
+      let pen′ = strokeOf st h (g .pen) (callOf s from c) .pen in
       record {
         sound = sound-behind s part first n from (g .sound) i;
+        pen = pen′;
         whole =
-            ap (λ (x : Hints). hintsAfter st x (take m (callsAt s part first n from (nextAt (rawAt part) at)))) (sym q)
-            ∙ (rw (l, calls-first s part first n from i e) at (g .whole));
+            ap (λ (x : Hints). drawingAfter st (drawingOf x pen′) (take m (callsAt s part first n from
+            (nextAt (rawAt part) at))) .hints) (sym q) ∙ (rw (l, calls-first s part first n from i e) at (g .whole));
       }
 
-  -- after the last command, or after as many as are asked
+  -- after as many commands as are asked, or after the last
   pub none-left : left ≡ 0 → h ≡ asked st s part first n from commands
+  unfolding drawingAfter
   none-left l = rw l at (g .whole)
 
   pub none-there : n ≤ at → h ≡ asked st s part first n from commands
-  none-there i = go left ∙ (rw (calls-none s part first n from i) at (g .whole))
-    where
-      go : (k : ℕ) → h ≡ hintsAfter st h (take k [])
-      go zero = refl
-      go (suc k) = refl
+  unfolding drawingAfter
+  none-there i = rw (calls-none s part first n from i, take-nil left) at (g .whole)

@@ -46,8 +46,9 @@ module _ (c : tie.After-read-command Inv-loop μ-loop) where
   here = c .before .before .before .before
 
   -- the command that was read
-  read-is : c .read-command .result ≡ readAt (rawAt (drop (4 * begin here .args .first) (begin here .args .script .now)))
-      (begin here .args .n) (here .loop .at)
+  read-is : c .read-command .result ≡
+      readAt (rawAt (drop (4 * begin here .args .first) (begin here .args .script .now))) (begin here .args .n)
+      (here .loop .at)
   read-is = rw (lent (begin here .args .script .now) (4 * begin here .args .first)) at (c .read-command .ensures)
 
   -- what a command asks of the hints
