@@ -17,6 +17,9 @@ from .writer_form import FILLS, lent_words, over
 
 # What the program that runs the cases can hold.
 HELD_BYTES, HELD_LIST = 65600, 600
+# A list of records that are all alike: the words of it, and the kind, stem and lock of each record.
+FILLED_LIST = 12 * RECORD_WORDS
+FILLED = [1, 77, 1]
 # Commands are counted in 64 bits. No script has so many as stand in 32.
 FAR = [2**31, 2**32 - 1, 2**32, 2**32 + 1, 2**63 - 1, 2**63, 2**64 - 1]
 ALL = FAR[-1]
@@ -70,14 +73,30 @@ def showing(words, room, number):
     raise ValueError(number)
 
 
-def row(case, number):
-    """A case as it is stored, in the row of that number."""
+def stored(case, lend):
+    """A case as it is stored, with a list that is lent for what is written and its room."""
     script, commands, room, said = case
     assert len(script) <= HELD_BYTES and room <= HELD_LIST
     answer = answered(script, commands, room)
     agree(said, answer[: len(said)], case)
-    number_said, place, counts, words = answer
-    lent = showing(words, room, number)
+    number, place, counts, words = answer
+    lent = lend(words, room)
     high, low = divmod(commands, 2**32)
-    head = [len(script), wrapped(low), wrapped(high), room, number_said, place, *counts]
+    head = [len(script), wrapped(low), wrapped(high), room, number, place, *counts]
     return packed(head) + padded_bytes(script) + packed([*lent, *over(lent, words)])
+
+
+def row(case, number):
+    """A case as it is stored, in the row of that number."""
+    return stored(case, lambda words, room: showing(words, room, number))
+
+
+def filled_row(case, number):
+    """The same with a list of records that are all alike: one that no edge here has."""
+
+    def lend(words, room):
+        *heights, _, _, _ = showing(words[:RECORD_WORDS], RECORD_WORDS, number)
+        assert room == FILLED_LIST and not any(height in words for height in heights)
+        return [*heights, *FILLED] * (room // RECORD_WORDS)
+
+    return stored(case, lend)

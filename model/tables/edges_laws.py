@@ -3,7 +3,7 @@
 from ..calls import NO_ROOM, OK
 from ..edges import LIST_ROOM, RECORD_WORDS, SYNTHETIC_STEM, ZEROS
 from ..script import SCALE, run_script, words_of
-from .edges import SEEN
+from .edges import LENT, SEEN
 from .edges_by_hand import GHOST_BOTTOM, GHOST_TOP, PAIR_BOTTOM, PAIR_TOP
 from .edges_form import HELD_LIST, answered
 
@@ -50,7 +50,7 @@ def records(name, case):
 def differing():
     """How many sentences there are, and the names of those that the model breaks."""
     sentences = []
-    for table, cases in SEEN.items():
+    for table, cases in {**SEEN, **LENT}.items():
         for at, case in enumerate(cases()):
             for part in [refusals, records]:
                 sentences += part(f"{table}, row {at}", case)

@@ -9,7 +9,7 @@ from ..edges import LIST_ROOM, RECORD_WORDS, Summary
 from ..numbers import HIGH, ONE
 from ..stems import MAX_HINTS
 from .edges_by_hand import CAPTURED, FALLING, GHOST_BOTTOM, GHOSTS, pair, whole
-from .edges_form import ALL, HELD_LIST, Seeing, answered, listing, made, refused
+from .edges_form import ALL, FILLED_LIST, HELD_LIST, Seeing, answered, listing, made, refused
 from .fonts import EM_BOX, FAMILY, LETTER, PLAIN, font
 from .form import packed
 from .scripts_good import BOX, LETTER as LETTER_SCRIPT
@@ -150,3 +150,33 @@ def rooms():
             yield refused(script, LIST_ROOM, 0, commands, room)
         for room in range(len(words), len(words) + RECORD_WORDS + 1):
             yield counted(script, counts, commands, room)
+
+
+# Lists of twelve records.
+
+
+def of_twelve():
+    """Maps with none to 14 edges, of ghosts, of pairs and of both, free and used; and invalid ones."""
+    for count in range(15):
+        ghosts = made(PLAIN, ONE, *ghosts_up(count), (MOVE, 0, 0))
+        words = [word for at in range(count) for word in whole(GHOST_BOTTOM, 10 * at + 10, at)]
+        yield in_twelve(ghosts, (count, 0, count, 0), words)
+    for count in range(8):
+        pairs = [(STEM, 20 * at, 20 * at + 10) for at in range(count)]
+        words = [word for at in range(count) for word in pair(20 * at, 20 * at + 10, at)]
+        yield in_twelve(made(PLAIN, ONE, *pairs, (MOVE, 0, 0)), (2 * count, count, 0, 0), words)
+        again = made(PLAIN, ONE, *pairs, (MOVE, 0, 0), (HINT_MASK, 0, 2), (LINE, 1, 1), masks=[0xFF, 0])
+        words = [word for at in range(count) for word in pair(20 * at, 20 * at + 10, at, 1)]
+        yield in_twelve(again, (2 * count, count, 0, 2 * count), words)
+        yield in_twelve(again, (0, 0, 0, 0), [], commands=count + 2)
+    for count in [8, 9, 10, 11]:
+        # The em box, with ghosts in it.
+        boxed = made(font(group=1), 32768, *ghosts_up(count), (MOVE, 0, 0))
+        yield in_twelve(boxed, (count + 2, 0, count + 2, 2))
+
+
+def in_twelve(script, counts, *words, commands=ALL):
+    """So many edges are listed, or none if they are over twelve."""
+    if counts[0] > FILLED_LIST // RECORD_WORDS:
+        return refused(script, LIST_ROOM, 0, commands, FILLED_LIST)
+    return Seeing(script, commands, FILLED_LIST, (OK, 0, Summary(*counts), *words))

@@ -14,8 +14,8 @@ use Rattle.test_edges.specs.declared.judging.Verdict.{Verdict}
 use Rattle.test_edges.specs.declared.judging.Verdict.the-variants.{Same, Answer, Word}
 
 -- ---- what is asked: the commands are counted in words 1 and 2
-abbrev pub commandsIn : List ℕ → ℕ
-commandsIn head = rawAt head 1 + 4294967296 * rawAt head 2
+abbrev pub commandCount : List ℕ → ℕ
+commandCount head = rawAt head 1 + 4294967296 * rawAt head 2
 
 -- ---- what is stored: the number at word 4, the place at word 5, the counts from word 6 on
 unfoldable pub sameSummary : List ℕ → Summary → Bool

@@ -1,6 +1,8 @@
 // One case.
 use crate::judging::Verdict;
 use crate::judging::judged;
+use crate::records::LENT_WORDS;
+use crate::records::judged_records;
 use crate::row;
 use io::read_full;
 use words::natural;
@@ -16,19 +18,25 @@ const HELD_LIST: usize = 600;
 // The bytes of all parts of a case.
 const HELD_CASE: usize = HELD_BYTES + 8 * HELD_LIST;
 
+// What the edges of a table's cases are listed into.
+pub(crate) enum Cases {
+    Words,
+    Records,
+}
+
 pub(crate) enum Seen {
     // The file ends within the case, or the case is too large.
     Cut,
     Run(Verdict),
 }
 
-pub(crate) fn case(file: i32) -> Seen {
+pub(crate) fn case(cases: Cases, file: i32) -> Seen {
     let mut head = [0u8; row::HEAD];
     if !read_bytes(file, &mut head) {
         return Seen::Cut;
     }
     let mut case = [0u8; HELD_CASE];
-    read_sized(file, &head, &mut case)
+    read_sized(cases, file, &head, &mut case)
 }
 
 // Reads bytes, and says whether they are all there.
@@ -37,7 +45,7 @@ fn read_bytes(file: i32, bytes: &mut [u8]) -> bool {
 }
 
 // Reads as many bytes as the case has.
-fn read_sized(file: i32, head: &[u8], case: &mut [u8]) -> Seen
+fn read_sized(cases: Cases, file: i32, head: &[u8], case: &mut [u8]) -> Seen
     requires { ⌜ 40 ≤ length (now head) ⌝ }
 {
     let size = natural(head, row::SCRIPT);
@@ -49,11 +57,35 @@ fn read_sized(file: i32, head: &[u8], case: &mut [u8]) -> Seen
     if !read_bytes(file, &mut case[..end]) {
         return Seen::Cut;
     }
-    Seen::Run(run_case(head, case, size, words))
+    run_case(cases, head, case, size, words)
+}
+
+// Runs the case, whose script has so many bytes and whose list has so many words.
+fn run_case(cases: Cases, head: &[u8], case: &[u8], size: usize, words: usize) -> Seen
+    requires { ⌜ (40 ≤ length (now head)) ×
+        ((words ≤ 600) × (4 * ((size + 3) / 4 + 2 * words) ≤ length (now case))) ⌝ }
+{
+    match cases {
+        Cases::Words => Seen::Run(run_words(head, case, size, words)),
+        Cases::Records => run_records(head, case, size, words),
+    }
+}
+
+// Lists the edges into records, of which there are always as many.
+fn run_records(head: &[u8], case: &[u8], size: usize, words: usize) -> Seen
+    requires { ⌜ (40 ≤ length (now head)) ×
+        ((words ≤ 600) × (4 * ((size + 3) / 4 + 2 * words) ≤ length (now case))) ⌝ }
+{
+    if words != LENT_WORDS {
+        return Seen::Cut;
+    }
+    let lent = 4 * ((size + 3) / 4);
+    let after = lent + 4 * LENT_WORDS;
+    Seen::Run(judged_records(head, &case[0..size], &case[lent..], &case[after..]))
 }
 
 // Lends as many words as the case says.
-fn run_case(head: &[u8], case: &[u8], size: usize, words: usize) -> Verdict
+fn run_words(head: &[u8], case: &[u8], size: usize, words: usize) -> Verdict
     requires { ⌜ (40 ≤ length (now head)) ×
         ((words ≤ 600) × (4 * ((size + 3) / 4 + 2 * words) ≤ length (now case))) ⌝ }
 {

@@ -9,7 +9,7 @@ ghost use mathlib.Core.Path.{_≡_};
 ghost use Prim.Native.Nat.{_*_, _≤_};
 ghost use lib.ListN.{length};
 ghost use Rattle.overlay.specs.Seen.{seenOf};
-ghost use Rattle.test_edges.specs.Judging.{commandsIn, sameSummary, sameAnswer, seen, verdictOf};
+ghost use Rattle.test_edges.specs.Judging.{commandCount, sameSummary, sameAnswer, seen, verdictOf};
 
 // What first differs from what is stored: the answer with its counts, or a word of the list.
 pub(crate) enum Verdict {
@@ -22,15 +22,15 @@ pub(crate) enum Verdict {
 pub(crate) fn judged(head: &[u8], script: &[u8], stored: &[u8], list: &mut [i32]) -> Verdict
     requires { ⌜ (40 ≤ length (now head)) × (4 * length (now list) ≤ length (now stored)) ⌝ }
     ensures { λ r. ⌜ r ≡ verdictOf (now (head .entry)) (now (stored .entry))
-        (seenOf (now (script .entry)) (commandsIn (now (head .entry))) (now (list .entry))) ⌝ }
+        (seenOf (now (script .entry)) (commandCount (now (head .entry))) (now (list .entry))) ⌝ }
 {
     let answer = see_edges(script, commands(head), list);
     compared(head, stored, answer, list)
 }
 
-fn commands(head: &[u8]) -> usize
+pub(crate) fn commands(head: &[u8]) -> usize
     requires { ⌜ 40 ≤ length (now head) ⌝ }
-    ensures { λ r. ⌜ r ≡ commandsIn (now (head .entry)) ⌝ }
+    ensures { λ r. ⌜ r ≡ commandCount (now (head .entry)) ⌝ }
 {
     natural(head, row::COMMANDS) + 4294967296 * natural(head, row::COMMANDS_HIGH)
 }
@@ -63,7 +63,7 @@ fn same_answer(head: &[u8], answer: SeenAnswer) -> bool
     same_summary(head, answer.summary())
 }
 
-fn same_summary(head: &[u8], summary: Summary) -> bool
+pub(crate) fn same_summary(head: &[u8], summary: Summary) -> bool
     requires { ⌜ 40 ≤ length (now head) ⌝ }
     ensures { λ r. ⌜ r ≡ sameSummary (now (head .entry)) summary ⌝ }
 {

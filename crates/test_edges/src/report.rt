@@ -1,4 +1,5 @@
 // What the program says.
+use crate::cases::Cases;
 use crate::cases::Seen;
 use crate::cases::case;
 use crate::judging::Verdict;
@@ -29,24 +30,25 @@ impl Tally {
 }
 
 pub(crate) fn tables(file: i32) {
-    table(b"by hand", file);
-    table(b"kinds", file);
-    table(b"em box", file);
-    table(b"full maps", file);
-    table(b"rooms", file);
-    table(b"commands", file);
-    table(b"good scripts", file);
-    table(b"refused", file);
-    table(b"two faults", file);
-    table(b"drawn", file);
+    table(Cases::Words, b"by hand", file);
+    table(Cases::Words, b"kinds", file);
+    table(Cases::Words, b"em box", file);
+    table(Cases::Words, b"full maps", file);
+    table(Cases::Words, b"rooms", file);
+    table(Cases::Words, b"commands", file);
+    table(Cases::Words, b"good scripts", file);
+    table(Cases::Words, b"refused", file);
+    table(Cases::Words, b"two faults", file);
+    table(Cases::Words, b"drawn", file);
+    table(Cases::Records, b"of twelve", file);
     end(file);
 }
 
 // Runs as many cases as the next word says, and says how many differ.
-fn table(name: &[u8], file: i32) {
+fn table(cases: Cases, name: &[u8], file: i32) {
     let mut word = [0u8; 4];
     read_full(file, &mut word);
-    let tally = run(file, natural(&word, 0));
+    let tally = run(cases, file, natural(&word, 0));
     test_tables::counts(name, tally.run, tally.differ);
 }
 
@@ -59,10 +61,10 @@ fn end(file: i32) {
 }
 
 // Runs so many cases, or those before the first that cannot be read.
-fn run(file: i32, count: usize) -> Tally {
+fn run(cases: Cases, file: i32, count: usize) -> Tally {
     let mut tally = Tally { run: 0, differ: 0 };
     for i in 0..count {
-        let seen = case(file);
+        let seen = case(cases, file);
         let Seen::Run(verdict) = seen else {
             of_case(i);
             write_all(STDOUT_FILENO, b"cut off or too large\n");

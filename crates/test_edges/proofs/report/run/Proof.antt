@@ -6,10 +6,10 @@ use Rattle.test_edges.proofs.report.run.Statement.{statement}
 use Rattle.test_edges.proofs.report.run.Tie as tie
 
 abbrev Inv-loop : tie.InvT-loop
-Inv-loop file count tally₀ i₀ t7 tally i = i ≤ count
+Inv-loop cases file count tally₀ i₀ t8 tally i = i ≤ count
 
 abbrev μ-loop : tie.MeasureT-loop
-μ-loop file count tally₀ i₀ t7 tally i = count - i
+μ-loop cases file count tally₀ i₀ t8 tally i = count - i
 
 loop-holds : tie.Need-loop-holds Inv-loop μ-loop
 loop-holds c = search needs

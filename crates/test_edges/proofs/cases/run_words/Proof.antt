@@ -1,10 +1,10 @@
--- `run_case` is safe: the list that is lent has the length that was tested. Assumes nothing.
+-- `run_words` is safe: the list that is lent has the length that was tested. Assumes nothing.
 use mathlib.Core.Path.{sym}
 use native.Mathlib.Omega.{arith}
 use lib.Seq.{length-take-le}
 use borrow.Author.Needs.{needs}
-use Rattle.test_edges.proofs.cases.run_case.Statement.{statement}
-use Rattle.test_edges.proofs.cases.run_case.Tie as tie
+use Rattle.test_edges.proofs.cases.run_words.Statement.{statement}
+use Rattle.test_edges.proofs.cases.run_words.Tie as tie
 
 array-borrow-prefix-list : tie.Need-array-borrow-prefix-list
 array-borrow-prefix-list c = search needs
@@ -18,5 +18,5 @@ run-parts-requires c κs = (search needs, omega (arith, slice-aggregate-run-part
 returns : tie.Need-returns
 returns c = search needs
 
-pub run-case-spec : {M : Type 1} → statement M
-run-case-spec = tie.close (tie.spec array-borrow-prefix-list slice-aggregate-run-parts run-parts-requires returns)
+pub run-words-spec : {M : Type 1} → statement M
+run-words-spec = tie.close (tie.spec array-borrow-prefix-list slice-aggregate-run-parts run-parts-requires returns)
