@@ -6,7 +6,9 @@ from dataclasses import dataclass
 from pathlib import Path
 from types import ModuleType
 
-from .tables import calls, figures, maps, marked, scripts, scripts_again, writer, writer_laws
+from .tables import (
+    calls, edges, edges_laws, figures, maps, marked, scripts, scripts_again, writer, writer_laws
+)
 from .tables.form import Disagreement, file_of
 
 ROOT = Path(__file__).resolve().parent.parent
@@ -31,6 +33,7 @@ STORED = [
     Stored(calls, "test_calls", "stdin"),
     Stored(scripts, "test_scripts", "data/scripts.bin"),
     Stored(writer, "test_writer", "data/writer.bin"),
+    Stored(edges, "test_edges", "data/edges.bin"),
 ]
 # The files whose scripts a crate writes again, in the order of its lines on them.
 SCRIPTS_CRATE, SCRIPTS_FILES = ROOT / "crates" / "test_scripts", ["data/scripts.bin", "data/sample.bin"]
@@ -43,6 +46,7 @@ def say(path, verdict):
 HELD_TO = {
     "figures that 01 marks, and its whole case": marked,
     "what 02 says of scripts that are written and read back": writer_laws,
+    "what 01 and 02 say of edges that are listed": edges_laws,
 }
 
 

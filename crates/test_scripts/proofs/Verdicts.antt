@@ -9,8 +9,9 @@ use Rattle.words.specs.declared.answer.Answer.{Answer}
 use Rattle.words.specs.Words.{rawAt}
 use Rattle.words.specs.Answers.{numberOf, placeOf}
 use Rattle.script.specs.Script.{Result, Scripted}
+use Rattle.test_tables.specs.Differing.{firstWord}
 use Rattle.test_scripts.specs.declared.judging.Verdict.the-variants.{Same, Number, Place, Word}
-use Rattle.test_scripts.specs.Judging.{firstDifferent, verdictOf}
+use Rattle.test_scripts.specs.Judging.{verdictOf}
 
 module _ (head stored : List ℕ) (r : Result) (said : Answer) (left : List ℤ) (s : Scripted r said left) where
   pub other-number : (numberOf said ≡ rawAt head 4 → ⊥) → Number ≡ verdictOf head stored r
@@ -28,7 +29,7 @@ module _ (head stored : List ℕ) (r : Result) (said : Answer) (left : List ℤ)
       )
 
   pub other-word : numberOf said ≡ rawAt head 4 → placeOf said ≡ rawAt head 5 →
-      firstDifferent left stored < length left → Word (firstDifferent left stored) ≡ verdictOf head stored r
+      firstWord left stored < length left → Word (firstWord left stored) ≡ verdictOf head stored r
   unfolding verdictOf
   other-word n p w =
       rw (
@@ -37,11 +38,11 @@ module _ (head stored : List ℕ) (r : Result) (said : Answer) (left : List ℤ)
         sym (s .memory),
         eq-eqb (numberOf said) (rawAt head 4) n,
         eq-eqb (placeOf said) (rawAt head 5) p,
-        lt-ltb (firstDifferent left stored) (length left) w,
+        lt-ltb (firstWord left stored) (length left) w,
       )
 
   pub same-words : numberOf said ≡ rawAt head 4 → placeOf said ≡ rawAt head 5 →
-      length left ≤ firstDifferent left stored → Same ≡ verdictOf head stored r
+      length left ≤ firstWord left stored → Same ≡ verdictOf head stored r
   unfolding verdictOf
   same-words n p w =
       rw (
@@ -50,5 +51,5 @@ module _ (head stored : List ℕ) (r : Result) (said : Answer) (left : List ℤ)
         sym (s .memory),
         eq-eqb (numberOf said) (rawAt head 4) n,
         eq-eqb (placeOf said) (rawAt head 5) p,
-        le-ltb (firstDifferent left stored) (length left) w,
+        le-ltb (firstWord left stored) (length left) w,
       )

@@ -1,15 +1,16 @@
 -- How a run is judged by what is stored for it.
-use mathlib.Core.Bool.{Bool, true, false, cond}
+use mathlib.Core.Bool.{Bool, true, false}
 use mathlib.Core.List.{List}
 use Prim.Native.Nat.{ℕ, zero, suc}
 use lib.Dec.{eqb, ltb}
 use lib.IntN.{ℤ, pos, negℤ}
-use lib.ListN.{length, getD, set}
+use lib.ListN.{length, set}
 use Rattle.fixed.specs.declared.Fixed.{Fixed}
-use Rattle.fixed.specs.Fixed.{fromBits, addF, sameF}
-use Rattle.words.specs.Words.{rawAt, numberAt}
+use Rattle.fixed.specs.Fixed.{fromBits, addF}
+use Rattle.words.specs.Words.{rawAt}
 use Rattle.words.specs.Answers.{numberOf, placeOf}
 use Rattle.script.specs.Script.{Result}
+use Rattle.test_tables.specs.Differing.{firstWord}
 use Rattle.test_scripts.specs.declared.judging.Verdict.{Verdict}
 use Rattle.test_scripts.specs.declared.judging.Verdict.the-variants.{Same, Number, Place, Word}
 
@@ -24,19 +25,6 @@ lentWord fill (suc i) = addF (lentWord fill i) (fromBits (negℤ (pos 1640531535
 unfoldable pub lent : Fixed → ℕ → List ℤ → List ℤ
 lent fill zero out = out
 lent fill (suc k) out = set (lent fill k out) k (lentWord fill k .bits)
-
--- ---- the words that are left
--- whether word i is the stored one
-abbrev pub agrees : List ℤ → List ℕ → ℕ → Bool
-agrees out stored i = sameF (fromBits (getD out i (pos 0))) (numberAt (rawAt stored) i)
-
--- the first of n words from i on that is not, or where they end
-unfoldable pub firstFrom : List ℤ → List ℕ → ℕ → ℕ → ℕ
-firstFrom out stored i zero = i
-firstFrom out stored i (suc n) = cond (agrees out stored i) (firstFrom out stored (suc i) n) i
-
-unfoldable pub firstDifferent : List ℤ → List ℕ → ℕ
-firstDifferent out stored = firstFrom out stored 0 (length out)
 
 -- ---- the verdict
 abbrev pub byWord : Bool → ℕ → Verdict
@@ -56,4 +44,4 @@ unfoldable pub verdictOf : List ℕ → List ℕ → Result → Verdict
 verdictOf head stored r =
     byNumber (eqb (numberOf (r .answer)) (rawAt head 4))
     (byPlace (eqb (placeOf (r .answer)) (rawAt head 5))
-    (byWord (ltb (firstDifferent (r .left) stored) (length (r .left))) (firstDifferent (r .left) stored)))
+    (byWord (ltb (firstWord (r .left) stored) (length (r .left))) (firstWord (r .left) stored)))

@@ -1,6 +1,7 @@
 // A script is run, and what it leaves is compared with what is stored.
 use fixed::Fixed;
 use script::run_script;
+use test_tables::first_word;
 use words::natural;
 use words::number;
 ghost use mathlib.Core.Path.{_≡_};
@@ -8,7 +9,7 @@ ghost use Prim.Native.Nat.{_*_, _≤_};
 ghost use lib.ListN.{length};
 ghost use Rattle.words.specs.Words.{rawAt, numberAt};
 ghost use Rattle.script.specs.Script.{scriptOf};
-ghost use Rattle.test_scripts.specs.Judging.{lent, firstDifferent, verdictOf};
+ghost use Rattle.test_scripts.specs.Judging.{lent, verdictOf};
 
 // Where a run first differs from what is stored.
 pub(crate) enum Verdict {
@@ -33,20 +34,6 @@ fn lend(out: &mut [i32], fill: Fixed)
     }
 }
 
-// The first word that differs from the stored one, or how many there are.
-fn first_different(out: &[i32], stored: &[u8]) -> usize
-    requires { ⌜ 4 * length (now out) ≤ length (now stored) ⌝ }
-    ensures { λ r. ⌜ r ≡ firstDifferent (now (out .entry)) (now (stored .entry)) ⌝ }
-{
-    for i in 0..out.len() {
-        let word = Fixed { bits: out[i] };
-        if !word.same(number(stored, i)) {
-            return i;
-        }
-    }
-    out.len()
-}
-
 // Runs a script. The six words of a case's header have the fill at 2, the number at 4 and the place
 // at 5.
 pub(crate) fn judged(head: &[u8], script: &[u8], stored: &[u8], out: &mut [i32]) -> Verdict
@@ -63,7 +50,7 @@ pub(crate) fn judged(head: &[u8], script: &[u8], stored: &[u8], out: &mut [i32])
     if answer.place() != natural(head, 5) {
         return Verdict::Place;
     }
-    let first = first_different(out, stored);
+    let first = first_word(out, stored);
     if first < out.len() {
         return Verdict::Word(first);
     }

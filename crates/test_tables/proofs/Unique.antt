@@ -32,6 +32,9 @@ use Rattle.test_tables.proofs.given.mask as mask
 use Rattle.test_tables.proofs.given.mask.Kinds as mask-kinds
 use Rattle.test_tables.proofs.given.mask.Reads as mask-reads
 use Rattle.test_tables.proofs.given.kind_number.Reads as kind-number-reads
+use Rattle.test_tables.proofs.differing.first_word as first-word
+use Rattle.test_tables.proofs.differing.first_word.Kinds as first-word-kinds
+use Rattle.test_tables.proofs.differing.first_word.Reads as first-word-reads
 
 module _ (κs : Lfts 1) (a : ArgsD number.signature κs) (r r′ : ResD number.signature κs)
     (x x′ : AtExit (endedOf 1 number-kinds.ps number-kinds.r) κs) where
@@ -76,3 +79,8 @@ module _ (κs : Lfts 1) (a : ArgsD mask.signature κs) (r r′ : ResD mask.signa
 pub kind-number-unique : (κs : Lfts 0) (k : Kind) (r r′ : ℤ) → kind-number-reads.Post κs (k, tt) r (k, tt) →
     kind-number-reads.Post κs (k, tt) r′ (k, tt) → r ≡ r′
 kind-number-unique κs k r r′ p q = p ∙ sym q
+
+module _ (κs : Lfts 2) (a : ArgsD first-word.signature κs) (r r′ : ResD first-word.signature κs)
+    (x x′ : AtExit (endedOf 2 first-word-kinds.ps first-word-kinds.r) κs) where
+  pub first-word-unique : first-word-reads.Post κs a r x → first-word-reads.Post κs a r′ x′ → r ≡ r′
+  first-word-unique p q = p ∙ sym q

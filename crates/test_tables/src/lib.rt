@@ -1,9 +1,12 @@
-// Rows of numbers as the programs of figures read them, and what they say of a table of rows.
+// Rows of numbers as the programs of figures read them, what they say of a table of rows, and where
+// words differ from those that are stored.
+mod differing;
 mod given;
 mod input;
 mod report;
 mod row;
 
+pub use differing::first_word;
 pub use given::after_pairs;
 pub use given::kind_number;
 pub use given::mask;

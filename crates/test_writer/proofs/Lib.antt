@@ -1,4 +1,3 @@
 pub mod Filling
-pub mod Searching
 pub mod Verdicts
 pub mod Results

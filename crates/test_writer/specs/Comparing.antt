@@ -1,33 +1,20 @@
 -- What a call leaves and says, compared with what is stored.
-use mathlib.Core.Bool.{Bool, cond, _&&_}
+use mathlib.Core.Bool.{Bool, _&&_}
 use mathlib.Core.List.{List}
-use Prim.Native.Nat.{ℕ, zero, suc}
+use Prim.Native.Nat.{ℕ}
 use lib.Dec.{eqb}
-use lib.IntN.{ℤ, pos}
 use lib.ListN.{getD}
 use Rattle.fixed.specs.Fixed.{fromBits, sameF}
 use Rattle.zones.specs.declared.blues.Blue.{Blue}
 use Rattle.zones.specs.declared.blues.Blues.{Blues}
 use Rattle.zones.specs.declared.state.HintParams.{HintParams}
 use Rattle.zones.specs.Zones.{maxBlues, noBlue}
-use Rattle.words.specs.Words.{rawAt, numberAt}
+use Rattle.test_tables.specs.Differing.{firstDifferent}
 
--- ---- the first of n from i on that does not agree, or where they end
-unfoldable pub firstFrom : (ℕ → Bool) → ℕ → ℕ → ℕ
-firstFrom agrees i zero = i
-firstFrom agrees i (suc n) = cond (agrees i) (firstFrom agrees (suc i) n) i
-
--- of the first n
-abbrev pub firstDifferent : (ℕ → Bool) → ℕ → ℕ
-firstDifferent agrees n = firstFrom agrees 0 n
-
+-- ---- bytes
 -- byte i is the stored one
 abbrev pub sameByte : List ℕ → List ℕ → ℕ → Bool
 sameByte left stored i = eqb (getD left i 0) (getD stored i 0)
-
--- word i is
-abbrev pub sameWord : List ℤ → List ℕ → ℕ → Bool
-sameWord left stored i = sameF (fromBits (getD left i (pos 0))) (numberAt (rawAt stored) i)
 
 -- ---- parameters
 abbrev pub samePair : Blue → Blue → Bool

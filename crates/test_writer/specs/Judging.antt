@@ -16,10 +16,11 @@ use Rattle.writer.specs.ParamWords.{paramsIn}
 use Rattle.writer.specs.Refusals.{WriteResult, writeNumber, writePlace, writtenBytes}
 use Rattle.readback.specs.declared.reading_back.ReadBack.{ReadBack}
 use Rattle.readback.specs.ReadBack.{ReadResult}
+use Rattle.test_tables.specs.Differing.{firstDifferent, firstWord}
 use Rattle.test_writer.specs.declared.judging.Verdict.{Verdict}
 use Rattle.test_writer.specs.declared.judging.Verdict.the-variants.{Same, Number, Place, Written, Commands}
 use Rattle.test_writer.specs.declared.judging.Verdict.the-variants.{Masks, Scale, Params, Word, Byte}
-use Rattle.test_writer.specs.Comparing.{firstDifferent, sameByte, sameWord, sameParams}
+use Rattle.test_writer.specs.Comparing.{sameByte, sameParams}
 
 -- ---- buffers
 -- the first byte that differs from those stored
@@ -29,10 +30,7 @@ firstByte left stored = firstDifferent (sameByte left stored) (length left)
 abbrev pub byteRow : List ℕ → List ℕ → Row Verdict
 byteRow left stored = row (ltb (firstByte left stored) (length left)) (Byte (firstByte left stored))
 
--- the first word
-abbrev pub firstWord : List ℤ → List ℕ → ℕ
-firstWord left stored = firstDifferent (sameWord left stored) (length left)
-
+-- the first word that does
 abbrev pub wordRow : List ℤ → List ℕ → Row Verdict
 wordRow left stored = row (ltb (firstWord left stored) (length left)) (Word (firstWord left stored))
 

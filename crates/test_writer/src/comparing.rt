@@ -1,16 +1,15 @@
 // What a call leaves and says, compared with what is stored.
 use fixed::Fixed;
-use words::number;
 use zones::Blue;
 use zones::Blues;
 use zones::HintParams;
 use zones::MAX_BLUES;
 ghost use mathlib.Core.Path.{_≡_};
-ghost use Prim.Native.Nat.{_*_, _≤_};
+ghost use Prim.Native.Nat.{_≤_};
 ghost use lib.ListN.{length};
 ghost use Rattle.zones.specs.Zones.{maxBlues};
-ghost use Rattle.test_writer.specs.Comparing.{firstDifferent, sameByte, sameWord, samePair, pairsAgree};
-ghost use Rattle.test_writer.specs.Comparing.{sameBlues, sameNumbers, sameParams};
+ghost use Rattle.test_tables.specs.Differing.{firstDifferent};
+ghost use Rattle.test_writer.specs.Comparing.{sameByte, samePair, pairsAgree, sameBlues, sameNumbers, sameParams};
 
 // The first byte that differs from the stored one, or how many there are.
 pub(crate) fn first_byte(left: &[u8], stored: &[u8]) -> usize
@@ -20,21 +19,6 @@ pub(crate) fn first_byte(left: &[u8], stored: &[u8]) -> usize
 {
     for i in 0..left.len() {
         if left[i] != stored[i] {
-            return i;
-        }
-    }
-    left.len()
-}
-
-// The same of words, which are stored as bytes.
-pub(crate) fn first_word(left: &[i32], stored: &[u8]) -> usize
-    requires { ⌜ 4 * length (now left) ≤ length (now stored) ⌝ }
-    ensures { λ r. ⌜ r ≡
-        firstDifferent (sameWord (now (left .entry)) (now (stored .entry))) (length (now (left .entry))) ⌝ }
-{
-    for i in 0..left.len() {
-        let word = Fixed { bits: left[i] };
-        if !word.same(number(stored, i)) {
             return i;
         }
     }

@@ -1,6 +1,5 @@
 // A script is written or read back, and all that comes of it is compared with what is stored.
 use crate::comparing::first_byte;
-use crate::comparing::first_word;
 use crate::comparing::same_params;
 use crate::lending::lend_bytes;
 use crate::lending::lend_words;
@@ -8,6 +7,7 @@ use crate::read_row;
 use crate::write_row;
 use readback::ReadBack;
 use readback::read_back;
+use test_tables::first_word;
 use words::natural;
 use words::number;
 use writer::WriteAnswer;

@@ -80,8 +80,8 @@ returns-2 c =
     other-place _ _ _ _ _ (ran (n .before .before .before .before)) (number-agrees n)
     (λ e. c .if2 .taken (c .before .before .place .ensures ∙ e ∙ sym (c .before .natural2 .ensures .0)))
 
-first-different-requires : tie.Need-first-different-requires
-first-different-requires c κs = search needs
+first-word-requires : tie.Need-first-word-requires
+first-word-requires c κs = search needs
 
 same-length-3 : tie.Need-same-length-3
 same-length-3 c = search needs
@@ -90,7 +90,7 @@ returns-3 : tie.Need-returns-3
 returns-3 c =
     let p = c .before .before .before in
     let n = p .before .before .before in
-    let e = c .before .first-different .ensures in
+    let e = c .before .first-word .ensures in
     ap Word e ∙ other-word _ _ _ _ _ (ran (n .before .before .before .before)) (number-agrees n) (place-agrees p)
     (rw e at (c .if3 .taken))
 
@@ -101,7 +101,7 @@ returns-4 : tie.Need-returns-4
 returns-4 c =
     let p = c .before .before .before in
     let n = p .before .before .before in
-    let e = c .before .first-different .ensures in
+    let e = c .before .first-word .ensures in
     same-words _ _ _ _ _ (ran (n .before .before .before .before)) (number-agrees n) (place-agrees p)
     (rw e at (c .if3 .left))
 
@@ -121,7 +121,7 @@ judged-spec =
     natural-requires-2
     same-length-2
     returns-2
-    first-different-requires
+    first-word-requires
     same-length-3
     returns-3
     same-length-4

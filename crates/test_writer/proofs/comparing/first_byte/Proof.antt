@@ -6,8 +6,9 @@ use native.Mathlib.Omega.{arith}
 use lib.ListN.{length}
 use borrow.Author.Needs.{needs}
 use borrow.Author.Tests.{eq-eqb, ne-eqb}
-use Rattle.test_writer.specs.Comparing.{firstFrom, firstDifferent, sameByte}
-use Rattle.test_writer.proofs.Searching.{passed, stopped, ended}
+use Rattle.test_tables.specs.Differing.{firstFrom, firstDifferent}
+use Rattle.test_tables.proofs.Searching.{passed, stopped, ended}
+use Rattle.test_writer.specs.Comparing.{sameByte}
 use Rattle.test_writer.proofs.comparing.first_byte.Statement.{statement}
 use Rattle.test_writer.proofs.comparing.first_byte.Tie as tie
 

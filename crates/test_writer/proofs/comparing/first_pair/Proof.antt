@@ -6,8 +6,9 @@ use native.Mathlib.Omega.{arith}
 use borrow.Author.Needs.{needs}
 use borrow.Author.Tests.{not-true, not-false}
 use Rattle.zones.specs.Zones.{maxBlues}
-use Rattle.test_writer.specs.Comparing.{firstFrom, firstDifferent, pairsAgree}
-use Rattle.test_writer.proofs.Searching.{passed, stopped, ended}
+use Rattle.test_tables.specs.Differing.{firstFrom, firstDifferent}
+use Rattle.test_tables.proofs.Searching.{passed, stopped, ended}
+use Rattle.test_writer.specs.Comparing.{pairsAgree}
 use Rattle.test_writer.proofs.comparing.first_pair.Statement.{statement}
 use Rattle.test_writer.proofs.comparing.first_pair.Tie as tie
 

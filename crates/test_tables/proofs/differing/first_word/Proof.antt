@@ -11,10 +11,10 @@ use mir.Facts.{toZ-ofZ}
 use borrow.Author.Needs.{needs}
 use borrow.Author.Tests.{not-true, not-false}
 use Rattle.fixed.specs.Fixed.{fromBits, sameF}
-use Rattle.test_writer.specs.Comparing.{firstFrom, firstDifferent, sameWord}
-use Rattle.test_writer.proofs.Searching.{passed, stopped, ended}
-use Rattle.test_writer.proofs.comparing.first_word.Statement.{statement}
-use Rattle.test_writer.proofs.comparing.first_word.Tie as tie
+use Rattle.test_tables.specs.Differing.{firstFrom, firstDifferent, sameWord}
+use Rattle.test_tables.proofs.Searching.{passed, stopped, ended}
+use Rattle.test_tables.proofs.differing.first_word.Statement.{statement}
+use Rattle.test_tables.proofs.differing.first_word.Tie as tie
 
 abbrev Inv-loop : tie.InvT-loop
 Inv-loop left stored i₀ i-end i =

@@ -3,7 +3,7 @@ use mathlib.Core.Path.{_≡_, ap, _∙_}
 use mathlib.Core.Bool.{Bool, true, false, cond}
 use Prim.Native.Nat.{ℕ, suc, _+_, _-_, _≤_, _<_}
 use native.Mathlib.Omega.{arith}
-use Rattle.test_writer.specs.Comparing.{firstFrom}
+use Rattle.test_tables.specs.Differing.{firstFrom}
 
 module _ (agrees : ℕ → Bool) (i n : ℕ) where
   -- a search that has not ended looks at place i
