@@ -2,6 +2,7 @@
 // run and how many differ.
 mod cases;
 mod judging;
+mod lent;
 mod records;
 mod report;
 mod row;

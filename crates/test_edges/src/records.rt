@@ -2,11 +2,11 @@
 use crate::judging::Verdict;
 use crate::judging::commands;
 use crate::judging::same_summary;
+use crate::lent::LENT_RECORDS;
+use crate::lent::Lent;
+use crate::lent::lend_list;
 use crate::row;
 use listing::EdgeRecord;
-use listing::LENT_RECORDS;
-use listing::Lent;
-use listing::lend_list;
 use script::check_script;
 use script::map_after;
 use stems::Kind;

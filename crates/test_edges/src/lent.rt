@@ -1,22 +1,23 @@
-// A list that is lent here, for programs that show what is left in one.
-use crate::answer::ListAnswer;
-use crate::list::list_edges;
-use crate::record::EdgeRecord;
+// A list of records that is lent here: the one function that lends such a list, walked by hand, so
+// that all above it goes by value.
 use hintmap::HintMap;
+use listing::EdgeRecord;
+use listing::ListAnswer;
+use listing::list_edges;
 ghost use lib.ListN.{replicate};
 ghost use Rattle.listing.specs.Listing.{Lists};
 
 // How many records are lent.
-pub const LENT_RECORDS: usize = 12;
+pub(crate) const LENT_RECORDS: usize = 12;
 
 // The answer, and what is left in the list.
-pub struct Lent {
+pub(crate) struct Lent {
     pub answer: ListAnswer,
     pub records: [EdgeRecord; LENT_RECORDS],
 }
 
 // Lends a list in which every record is the same, and gives it back.
-pub fn lend_list(map: HintMap, fill: EdgeRecord) -> Lent
+pub(crate) fn lend_list(map: HintMap, fill: EdgeRecord) -> Lent
     ensures { λ r. ⌜ Lists map (replicate 12 fill) (r .answer) (r .records) ⌝ }
 {
     let mut list = [fill; LENT_RECORDS];

@@ -1,4 +1,4 @@
--- `listing::lent::lend_list` meets its contract: a walk of its MIR by hand. It makes an array,
+-- `lend_list` meets its contract: a walk of its MIR by hand. It makes an array,
 -- lends it for a lifetime of its own, and has it back as `list_edges` says that it is left. Assumes
 -- nothing.
 use mathlib.Core.Path.{refl, _∙_}
@@ -51,25 +51,25 @@ use denote.Exit.{yes}
 use Rattle.hintmap.specs.declared.map.HintMap.{HintMap}
 use Rattle.hintmap.proofs.map.HintMap as Map
 use Rattle.hintmap.proofs.map.HintMap.Laws as Map′
 use Rattle.listing.specs.declared.record.EdgeRecord.{EdgeRecord}
 use Rattle.listing.specs.declared.answer.ListAnswer.{ListAnswer}
-use Rattle.listing.specs.declared.lent.Lent.{Lent}
+use Rattle.test_edges.specs.declared.lent.Lent.{Lent}
 use Rattle.listing.specs.Listing.{Lists}
 use Rattle.listing.proofs.record.EdgeRecord as Edge
 use Rattle.listing.proofs.record.EdgeRecord.Laws as Edge′
 use Rattle.listing.proofs.answer.ListAnswer as Answer
 use Rattle.listing.proofs.answer.ListAnswer.Laws as Answer′
-use Rattle.listing.proofs.lent.Lent as Back
-use Rattle.listing.proofs.lent.Lent.Laws as Back′
-use Rattle.listing.proofs.list.list_edges as list-edges
-use Rattle.listing.proofs.list.list_edges.Symbol as list-edges-at
-use Rattle.listing.proofs.list.list_edges.Met as list-edges-met
-use Rattle.listing.proofs.lent.lend_list as lend-list
-use Rattle.listing.proofs.lent.lend_list.Key.{name}
-use Rattle.listing.proofs.lent.lend_list.Statement.{statement}
-use Rattle.listing.proofs.lent.lend_list.Code as code
+use Rattle.test_edges.proofs.lent.Lent as Back
+use Rattle.test_edges.proofs.lent.Lent.Laws as Back′
+use Rattle.listing.proofs.list_edges as list-edges
+use Rattle.listing.proofs.list_edges.Symbol as list-edges-at
+use Rattle.listing.proofs.list_edges.Met as list-edges-met
+use Rattle.test_edges.proofs.lent.lend_list as lend-list
+use Rattle.test_edges.proofs.lent.lend_list.Key.{name}
+use Rattle.test_edges.proofs.lent.lend_list.Statement.{statement}
+use Rattle.test_edges.proofs.lent.lend_list.Code as code
 use Rattle.listing.proofs.Call.{map-val, map-vals, MapIs, owned-map}
 use Rattle.listing.proofs.Locals.{type-of, found, copied}
 
 -- ---- what is called
 abbrev Listing : {M : Type 1} (𝓤 : URA M) (H : Heap 𝓤) (A : Atoms 𝓤) → (Memory → SProp 𝓤) → (Routine → Fun 𝓤) →
@@ -308,4 +308,4 @@ lend-list-spec 𝓤 H 𝓜 𝓖 𝓡 =
     (𝓣 .C) (𝓣 .Λ) name code.function (code.unfolded 𝓤 H 𝓜 𝓡)
     (meets 𝓤 H A (givenOf 𝓤 H 𝓜 𝓖) (𝓜 .mem) (𝓡 .run) (tablesOf 𝓤 H 𝓜 𝓣)
     (cited 𝓤 H (Listing 𝓤 H A (𝓜 .mem) (𝓡 .run)) 𝓜 𝓡 code.env list-edges-at.name list-edges-at.routine
-    code.calls-listing·list·list-edges (list-edges-met.met 𝓤 H 𝓜 𝓖 𝓡)))
+    code.calls-listing·list-edges (list-edges-met.met 𝓤 H 𝓜 𝓖 𝓡)))
