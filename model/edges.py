@@ -1,6 +1,7 @@
 """The edges of a drawing's current map, listed and counted (02, Ask 2).
 
-Written from 02, the readings of it, 01 and the other parts of the model.
+Written from 02, the readings of it, 01 and the other parts of the model, after the crate `listing`
+had been read.
 """
 
 from typing import NamedTuple

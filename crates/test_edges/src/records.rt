@@ -39,7 +39,11 @@ pub(crate) fn judged_records(head: &[u8], script: &[u8], lent: &[u8], stored: &[
         stem: LENT_STEM,
         locked: true,
     };
-    compared_records(head, stored, lend_list(map_after(script, commands(head)), fill))
+    compared_records(
+        head,
+        stored,
+        lend_list(map_after(script, commands(head)), fill),
+    )
 }
 
 fn compared_records(head: &[u8], stored: &[u8], left: Lent) -> Verdict
