@@ -18,13 +18,6 @@ pub fn map_after(script: &[u8], commands: usize) -> HintMap
     let first = natural(script, layout::COMMANDS_START);
     let count = natural(script, layout::COMMANDS_COUNT);
     let masks = natural(script, layout::MASKS_START);
-    let hints = hints_after(
-        script,
-        first,
-        count,
-        4 * masks,
-        zones_of(script),
-        commands,
-    );
+    let hints = hints_after(script, first, count, 4 * masks, zones_of(script), commands);
     hints.map
 }

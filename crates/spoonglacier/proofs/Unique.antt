@@ -43,6 +43,14 @@ module _ (κs : Lfts 7) (a : ArgsD edges.signature κs) (r r′ : ResD edges.sig
       (now (x .1 .1 .1 .1 .1 .1 .1 .0) ≡ now (x′ .1 .1 .1 .1 .1 .1 .1 .0)))))))
   edges-unique p q = (
     p .number ∙ sym (q .number),
-    (p .memory ∙ sym (q .memory), (p .edges ∙ sym (q .edges), (p .pairs ∙ sym (q .pairs),
-    (p .ghosts ∙ sym (q .ghosts), (p .locked ∙ sym (q .locked), p .place ∙ sym (q .place)))))),
+    (
+      p .memory ∙ sym (q .memory),
+      (
+        p .edges ∙ sym (q .edges),
+        (
+          p .pairs ∙ sym (q .pairs),
+          (p .ghosts ∙ sym (q .ghosts), (p .locked ∙ sym (q .locked), p .place ∙ sym (q .place))),
+        ),
+      ),
+    ),
   )

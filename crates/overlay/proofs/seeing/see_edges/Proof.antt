@@ -38,7 +38,8 @@ returns : tie.Need-returns
 returns c =
     let a = c .before .before .before .before .args in
     let e = c .before .before .check-script .ensures in
-    subst (λ (x : Answer). Sees (seenOf (a .script .now) (a .commands) (a .list .now)) (Refused x) (a .list .now)) (sym e)
+    let o = seenOf (a .script .now) (a .commands) (a .list .now) in
+    subst (λ (x : Answer). Sees o (Refused x) (a .list .now)) (sym e)
     (by-fault (a .script .now) (a .commands) (a .list .now)
     (refused (firstOf (checkRows (a .script .now)))
     (omega (arith, ap numberOf e, c .before .code .ensures, c .if1 .taken))))
@@ -61,8 +62,8 @@ returns-2 c =
     let l = c .before .before in
     let m = l .before .before in
     let a = m .before .before .before .before .before .args in
-    subst (λ (x : SeenAnswer). Sees (seenOf (a .script .now) (a .commands) (a .list .now)) x (l .list-words .last .1 .0))
-    (sym (c .seen-as .ensures))
+    let o = seenOf (a .script .now) (a .commands) (a .list .now) in
+    subst (λ (x : SeenAnswer). Sees o x (l .list-words .last .1 .0)) (sym (c .seen-as .ensures))
     (by-list (a .script .now) (a .commands) (a .list .now) (no-fault (m .before)) (l .list-words .result)
     (l .list-words .last .1 .0)
     (subst (λ (x : HintMap). ListsWords x (a .list .now) (l .list-words .result) (l .list-words .last .1 .0))

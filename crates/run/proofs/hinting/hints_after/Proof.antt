@@ -143,7 +143,7 @@ loop-again c =
     let l = here r in
     let a = begin l .args in
     let e : a .commands - l .loop .counter ≡ suc (a .commands - (l .loop .counter + 1)) =
-        omega (arith, r .before .before .before .loop-test .taken) in
+    omega (arith, r .before .before .before .loop-test .taken) in
     rw (ap (λ (x : Read). x .next) (read-is r) ∙ next-is _ _ _)
     (turn (l .loop .inv) (r .before .before .if1 .left) e (ap (λ (x : Read). x .command) (sym (read-is r))) (made c))
 
