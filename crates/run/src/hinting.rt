@@ -1,8 +1,8 @@
 // The hints that commands leave. No records are written, so there is always room enough.
-use crate::marks::marked;
-use crate::running::is_close;
+use crate::marks::mask_at;
 use crate::running::wants_map;
 use commands::Command;
+use commands::Marking;
 use commands::read_command;
 use hints::Hints;
 use zones::HintState;
@@ -15,7 +15,9 @@ ghost use Rattle.commands.specs.Commands.{commandsOf};
 ghost use Rattle.run.specs.Run.{callsOf, drawingAfter, Runnable};
 
 // The hints after the first so many commands of a script, or after all of them if there are fewer.
-// They are `n` words from word `first` on, and their mask bytes start at byte `from`.
+// They are `n` words from word `first` on, and their mask bytes start at byte `from`. The cases of
+// `marked` stand here again: called from two loops it would be no part of either, and its frame of
+// four copies of the hints would come on top of the run's.
 pub fn hints_after(
     script: &[u8],
     first: usize,
@@ -41,11 +43,18 @@ pub fn hints_after(
         let command = read.command;
         at = read.next;
         match command {
-            Command::Mark(marking) => {
-                if !is_close(marking) {
-                    hints = marked(state, hints, script, from, marking);
+            Command::Mark(marking) => match marking {
+                Marking::Bad => {}
+                Marking::Stem(min, max) => hints = hints.with_stem(min, max),
+                Marking::Mask { start, len } => {
+                    hints = hints.with_mask(mask_at(script, from, start, len));
                 }
-            }
+                Marking::Counter { start, len } => {
+                    hints = hints.counter(state, mask_at(script, from, start, len));
+                }
+                Marking::Clear => hints = Hints::new(state.scale),
+                Marking::Close => {}
+            },
             Command::Draw(path) => {
                 if wants_map(path, hints.map.is_valid) {
                     hints = hints.ready(state);

@@ -19,7 +19,7 @@ fn mask_part(script: &[u8], from: usize, len: usize) -> &[u8]
 }
 
 // The mask of them, where the script's mask bytes start at byte `from`.
-fn mask_at(script: &[u8], from: usize, start: u32, len: u32) -> HintMask
+pub(crate) fn mask_at(script: &[u8], from: usize, start: u32, len: u32) -> HintMask
     requires { ⌜ from + start + len ≤ length (now script) ⌝ }
     ensures { λ r. ⌜ r ≡ maskAt (now (script .entry)) from start len ⌝ }
 {

@@ -37,7 +37,7 @@ pub(crate) fn wants_map(path: Path, valid: bool) -> bool
 }
 
 // Whether a command is a close, which leaves the hints as they are.
-pub(crate) fn is_close(marking: Marking) -> bool
+fn is_close(marking: Marking) -> bool
     ensures { λ r. ⌜ r ≡ isClose marking ⌝ }
 {
     match marking {

@@ -9,16 +9,20 @@ use lib.ListN.{length, drop, length-drop}
 use borrow.Author.Needs.{needs}
 use borrow.Author.Tests.{not-false}
 use Rattle.hints.specs.declared.hints.Hints.{Hints}
+use Rattle.stems.specs.declared.mask.HintMask.{HintMask}
+use Rattle.hints.specs.Hints.{withMask, countered}
 use Rattle.hints.specs.Calls.{readyFor, hintsOf}
 use Rattle.words.specs.Words.{rawAt}
+use Rattle.commands.specs.declared.reading.Marking.{Marking}
 use Rattle.commands.specs.declared.reading.Command.{Command}
+use Rattle.commands.specs.declared.reading.Command.the-variants.{Mark}
 use Rattle.commands.specs.declared.reading.Read.{Read}
 use Rattle.commands.specs.Commands.{readAt}
 use Rattle.commands.proofs.Laws.{next-is, lent}
-use Rattle.run.specs.Run.{callOf}
+use Rattle.run.specs.Run.{callOf, maskEnd}
 use Rattle.run.proofs.Calls.{idle-hints}
 use Rattle.run.proofs.Reading.{mask-there}
-use Rattle.run.proofs.Turns.{close-idle, wanted}
+use Rattle.run.proofs.Turns.{wanted}
 use Rattle.run.proofs.Looking.{Looking, looking, turn, none-left, none-there}
 use Rattle.run.proofs.hinting.hints_after.Statement.{statement}
 use Rattle.run.proofs.hinting.hints_after.Tie as tie
@@ -57,26 +61,42 @@ module _ (c : tie.After-read-command Inv-loop μ-loop) where
       hintsOf (begin here .args .state) (here .loop .hints)
       (callOf (begin here .args .script .now) (begin here .args .from) x)
 
+  abbrev marks : Marking → Hints
+  marks m = asks (Mark m)
+
+  -- the mask that it names is there
+  inside : {m : Marking} → c .read-command .result .command ≡ Mark m →
+      begin here .args .from + maskEnd m ≤ length (begin here .args .script .now)
+  inside e =
+      mask-there (here .loop .inv .sound) (c .before .before .if1 .left)
+      (ap (λ (x : Read). x .command) (sym read-is) ∙ e)
+
 -- the hints behind a command are those that it asks
 made : (c : tie.At-match-came Inv-loop μ-loop) → asks (c .before) (c .before .read-command .result .command) ≡
     c .match .hints
 made c =
-    let l = here (c .before) in
+    let r = c .before in
+    let l = here r in
     let a = begin l .args in
-    ⊎-elim
-    (λ w. ap (asks (c .before)) (w .1 .given .1) ∙ sym (w .6 ∙ w .5 .ensures))
+    let h = l .loop .hints in
+    ⊎-elim (λ w. ap (asks r) (w .1 .given .1) ∙ ap (marks r) (w .4 .given .1) ∙ sym (w .5))
+    (⊎-elim (λ w. ap (asks r) (w .1 .given .1) ∙ ap (marks r) (w .4 .given .1) ∙ sym (w .7 ∙ w .6 .ensures))
     (⊎-elim
-    (λ w. ap (asks (c .before)) (w .1 .given .1) ∙
-    close-idle (a .state) (l .loop .hints) (a .script .now) (a .from) (w .1 .given .0 .0)
-    (sym (w .3 .ensures) ∙ not-false (w .3 .result) (w .4 .left)) ∙ sym (w .5))
+    (λ w. ap (asks r) (w .1 .given .1) ∙ ap (marks r) (w .4 .given .1) ∙
+    ap (λ (m : HintMask). withMask m h) (sym (w .6 .ensures)) ∙ sym (w .8 ∙ w .7 .ensures))
     (⊎-elim
-    (λ w. ap (asks (c .before)) (w .1 .given .1) ∙
-    ap (λ (b : Bool). readyFor b (a .state) (l .loop .hints))
-    (wanted (l .loop .hints .map .«is_valid») (w .1 .given .0 .0) (sym (w .3 .ensures) ∙ w .4 .taken) .1) ∙
+    (λ w. ap (asks r) (w .1 .given .1) ∙ ap (marks r) (w .4 .given .1) ∙
+    ap (λ (m : HintMask). countered (a .state) m h) (sym (w .6 .ensures)) ∙ sym (w .8 ∙ w .7 .ensures))
+    (⊎-elim (λ w. ap (asks r) (w .1 .given .1) ∙ ap (marks r) (w .4 .given .1) ∙ sym (w .6 ∙ w .5 .ensures))
+    (⊎-elim (λ w. ap (asks r) (w .1 .given .1) ∙ ap (marks r) (w .4 .given .1) ∙ sym (w .5))
+    (⊎-elim
+    (λ w. ap (asks r) (w .1 .given .1) ∙
+    ap (λ (b : Bool). readyFor b (a .state) h)
+    (wanted (h .map .«is_valid») (w .1 .given .0 .0) (sym (w .3 .ensures) ∙ w .4 .taken) .1) ∙
     sym (w .6 ∙ w .5 .ensures))
-    (λ w. ap (asks (c .before)) (w .1 .given .1) ∙
-    idle-hints (a .state) (l .loop .hints) (l .loop .hints .map .«is_valid») refl (w .1 .given .0 .0)
-    (sym (w .3 .ensures) ∙ w .4 .left) ∙ sym (w .5))))
+    (λ w. ap (asks r) (w .1 .given .1) ∙
+    idle-hints (a .state) h (h .map .«is_valid») refl (w .1 .given .0 .0) (sym (w .3 .ensures) ∙ w .4 .left) ∙
+    sym (w .5))))))))
     (c .match .came)
 
 mul-start : tie.Need-mul-start Inv-loop μ-loop
@@ -112,15 +132,47 @@ read-command-requires c κs =
 enum-known-command : tie.Need-enum-known-command Inv-loop μ-loop
 enum-known-command c = search needs
 
-is-close-requires : tie.Need-is-close-requires Inv-loop μ-loop
-is-close-requires c κs = search needs
+enum-told : tie.Need-enum-told Inv-loop μ-loop
+enum-told c = search needs
 
-marked-requires : tie.Need-marked-requires Inv-loop μ-loop
-marked-requires c κs =
-    let m = c .before .before .before in
-    let r = m .before .before in
-    mask-there (here r .loop .inv .sound) (r .before .before .if1 .left)
-    (ap (λ (x : Read). x .command) (sym (read-is r)) ∙ m .command .given .1)
+enum-known-marking : tie.Need-enum-known-marking Inv-loop μ-loop
+enum-known-marking c = search needs
+
+with-stem-requires : tie.Need-with-stem-requires Inv-loop μ-loop
+with-stem-requires c κs = search needs
+
+enum-known-marking-2 : tie.Need-enum-known-marking-2 Inv-loop μ-loop
+enum-known-marking-2 c = search needs
+
+mask-at-requires : tie.Need-mask-at-requires Inv-loop μ-loop
+mask-at-requires c κs =
+    let k = c .before in
+    let m = k .before .before .before in
+    omega (arith, inside (m .before .before) (m .command .given .1 ∙ ap Mark (k .marking2 .given .1)))
+
+with-mask-requires : tie.Need-with-mask-requires Inv-loop μ-loop
+with-mask-requires c κs = search needs
+
+enum-known-marking-3 : tie.Need-enum-known-marking-3 Inv-loop μ-loop
+enum-known-marking-3 c = search needs
+
+mask-at-requires-2 : tie.Need-mask-at-requires-2 Inv-loop μ-loop
+mask-at-requires-2 c κs =
+    let k = c .before in
+    let m = k .before .before .before in
+    omega (arith, inside (m .before .before) (m .command .given .1 ∙ ap Mark (k .marking3 .given .1)))
+
+counter-requires : tie.Need-counter-requires Inv-loop μ-loop
+counter-requires c κs = search needs
+
+enum-told-2 : tie.Need-enum-told-2 Inv-loop μ-loop
+enum-told-2 c = search needs
+
+new-requires-2 : tie.Need-new-requires-2 Inv-loop μ-loop
+new-requires-2 c κs = search needs
+
+enum-told-3 : tie.Need-enum-told-3 Inv-loop μ-loop
+enum-told-3 c = search needs
 
 enum-known-command-2 : tie.Need-enum-known-command-2 Inv-loop μ-loop
 enum-known-command-2 c = search needs
@@ -165,8 +217,18 @@ hints-after-spec =
     part-read-command-end
     read-command-requires
     enum-known-command
-    is-close-requires
-    marked-requires
+    enum-told
+    enum-known-marking
+    with-stem-requires
+    enum-known-marking-2
+    mask-at-requires
+    with-mask-requires
+    enum-known-marking-3
+    mask-at-requires-2
+    counter-requires
+    enum-told-2
+    new-requires-2
+    enum-told-3
     enum-known-command-2
     wants-map-requires
     ready-requires
