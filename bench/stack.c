@@ -2,8 +2,9 @@
    its own that is filled with a pattern; the deepest byte that no longer holds the pattern says how
    much was used. The scripts are those of the files that are named, tables as crates/test_scripts reads
    them, and demanding ones that are made here: full lists of pairs, more stems than are kept, masks
-   that change between all strokes, and paths up to the longest script. Scripts up to the longest are
-   written too, with no pairs to all 28, and each kind of refusal is called for. */
+   that change between all strokes, and paths up to the longest script. Each is run, and its edges are
+   listed. Scripts up to the longest are written too, with no pairs to all 28, and each kind of refusal
+   is called for. */
 #include <stdint.h>
 #include <stdio.h>
 #include <stdlib.h>
@@ -29,9 +30,20 @@ static void stop(const char *why) {
     exit(1);
 }
 
-static void call(void) {
+static void run_call(void) {
     answer = spoonglacier_run(script, script_bytes, out, out_words, &place);
 }
+
+/* All commands are done, into the same words, of which a full map takes the first few. */
+static void edges_call(void) {
+    size_t edges, pairs, ghosts, locked;
+    answer = spoonglacier_edges(script, script_bytes, SIZE_MAX, out, out_words, &edges, &pairs, &ghosts, &locked,
+                                &place);
+}
+
+/* A function that takes a script, and its name. */
+static void (*call)(void) = run_call;
+static const char *called;
 
 /* Calls a function on the stack that is looked at. */
 static void on_stack(void (*function)(void)) {
@@ -71,7 +83,7 @@ static void report(const char *name, int scripts, int fine) {
     size_t bytes = used();
     if (bytes > deepest)
         deepest = bytes;
-    printf("%s: %d scripts, %d of them OK, %zu bytes\n", name, scripts, fine, bytes);
+    printf("%s, %s: %d scripts, %d of them OK, %zu bytes\n", called, name, scripts, fine, bytes);
 }
 
 /* ---- stored scripts */
@@ -308,12 +320,22 @@ static void made_to_write(const char *name) {
     report(name, written_scripts, written_fine);
 }
 
-int main(int argc, char **argv) {
-    made_to_write("spoonglacier_write, first calls");
-    made_to_write("spoonglacier_write");
+/* The scripts of the files that are named, and those that are made here. */
+static void scripts_of(int argc, char **argv) {
     for (int i = 1; i < argc; i++)
         stored(argv[i]);
     made();
+}
+
+int main(int argc, char **argv) {
+    called = "spoonglacier_write";
+    made_to_write("first calls");
+    made_to_write("later calls");
+    called = "spoonglacier_run";
+    scripts_of(argc, argv);
+    call = edges_call;
+    called = "spoonglacier_edges";
+    scripts_of(argc, argv);
     printf("deepest: %zu bytes, of %d that SPOONGLACIER_STACK_BYTES grants\n", deepest, SPOONGLACIER_STACK_BYTES);
     return deepest <= SPOONGLACIER_STACK_BYTES ? 0 : 1;
 }

@@ -1,10 +1,10 @@
-/* Spoonglacier: hints the glyph that a script draws, and gives back its path as records; and writes
-   scripts.
+/* Spoonglacier: hints the glyph that a script draws, and gives back its path as records; writes
+   scripts; and lists the edges by which a glyph is hinted.
 
    Link target/staticlib/libspoonglacier.a, which `rt staticlib spoonglacier` makes: x86-64 code for
    Linux. docs/SCRIPT.md explains every word of a script and of a result, and how to link from C and
-   from Rust; examples/first.c is a whole program, and examples/write.c writes a script and runs
-   it. */
+   from Rust; examples/first.c is a whole program, examples/write.c writes a script and runs it,
+   and examples/edges.c lists a script's edges. */
 #ifndef SPOONGLACIER_H
 #define SPOONGLACIER_H
 
@@ -20,12 +20,12 @@ extern "C" {
    which some scripts have other answers (docs/RULES.md tells which); the second, releases that
    add names; the third, all other releases. */
 #define SPOONGLACIER_VERSION_MAJOR 0
-#define SPOONGLACIER_VERSION_MINOR 2
+#define SPOONGLACIER_VERSION_MINOR 3
 #define SPOONGLACIER_VERSION_PATCH 0
-#define SPOONGLACIER_VERSION "0.2.0"
+#define SPOONGLACIER_VERSION "0.3.0"
 
-/* What the functions answer. Places are those of spoonglacier_run; spoonglacier_write has its own
-   below. */
+/* What the functions answer. Places are those of spoonglacier_run and spoonglacier_edges;
+   spoonglacier_write has its own below. */
 enum {
     SPOONGLACIER_OK = 0,          /* the result is in the output; place 0 */
     SPOONGLACIER_BAD_SCRIPT = 1,  /* length, header, padding or pairs; place: the word at fault, 0
@@ -36,8 +36,9 @@ enum {
     SPOONGLACIER_BAD_MASK = 5,    /* not within the mask bytes; place: its kind word */
     SPOONGLACIER_NO_ROOM = 6,     /* records do not fit; place: the kind word of their command, or
                                      the value of word 4 if the output has under 4 words */
-    SPOONGLACIER_SCRIPT_ROOM = 7  /* spoonglacier_write: the script is longer than the buffer, or
+    SPOONGLACIER_SCRIPT_ROOM = 7, /* spoonglacier_write: the script is longer than the buffer, or
                                      than a script may be; place 0 */
+    SPOONGLACIER_LIST_ROOM = 8    /* spoonglacier_edges: the list has too few records; place 0 */
 };
 
 /* Commands of a script: the kind word, and the operand words behind it. Points are x and y. */
@@ -159,6 +160,57 @@ uint32_t spoonglacier_write(int32_t scale, const int32_t *params, size_t params_
                             const int32_t *commands, size_t command_words, const uint8_t *masks,
                             size_t mask_bytes, uint8_t *script, size_t script_bytes,
                             size_t *written, size_t *place);
+
+/* An edge of a map as a record of six words: its height in units, its height in pixels and the
+   scale from it on, all in 16.16; its kind; the number of its stem; and 1 if it is locked, else 0.
+   A locked edge was put where it is by a zone, by an earlier map or at the em box, and was not
+   fitted to pixels. */
+#define SPOONGLACIER_EDGE_WORDS 6
+enum {
+    SPOONGLACIER_EDGE_HEIGHT = 0,
+    SPOONGLACIER_EDGE_DEVICE = 1,
+    SPOONGLACIER_EDGE_SCALE = 2,
+    SPOONGLACIER_EDGE_KIND = 3,
+    SPOONGLACIER_EDGE_STEM = 4,
+    SPOONGLACIER_EDGE_LOCKED = 5
+};
+enum {
+    SPOONGLACIER_GHOST_BOTTOM = 0,
+    SPOONGLACIER_GHOST_TOP = 1,
+    SPOONGLACIER_PAIR_BOTTOM = 2,
+    SPOONGLACIER_PAIR_TOP = 3
+};
+
+/* The stem number of an edge that is no stem's, at the em box; and the words of a list that has
+   room for every map. */
+#define SPOONGLACIER_NO_STEM 96
+#define SPOONGLACIER_MOST_EDGE_WORDS (SPOONGLACIER_MOST_STEMS * SPOONGLACIER_EDGE_WORDS)
+
+/* Lists the edges of the map that a script has after its first commands, and answers one of the
+   numbers above, never NO_ROOM or SCRIPT_ROOM. A glyph's map changes with its masks, so the number
+   of commands says which of them is meant.
+
+   script    as for spoonglacier_run.
+   commands  how many commands are done, all of them if there are fewer. There is room enough for
+             their records, which are not kept.
+   list      `list_words` words that nobody else reads or writes during the call and that do not
+             overlap the script. On OK it holds the records of the map, the lowest edge first, and
+             the words behind them are as they were, a rest of under six among them. A map that is
+             not built, as before the first point or after another mask, has no records. LIST_ROOM
+             is answered exactly if there are more records than the list has room for; then, and
+             on the numbers 1 to 5, no word is changed.
+   edges, pairs, ghosts, locked
+             where four counts over these records are left: all of them, the pairs, the ghosts with
+             those at the em box, and the locked edges; zeros if refused.
+   place     where the place is left, as by spoonglacier_run.
+
+   On OK heights never fall, a pair's bottom is directly followed by its own top, and `edges` is
+   twice `pairs` and `ghosts`, which is proved. The five pointers may not be null or lie in a
+   buffer, and point to five places. Lengths, alignment, threads and state are as for
+   spoonglacier_run. */
+uint32_t spoonglacier_edges(const uint8_t *script, size_t script_bytes, size_t commands,
+                            int32_t *list, size_t list_words, size_t *edges, size_t *pairs,
+                            size_t *ghosts, size_t *locked, size_t *place);
 
 #ifdef __cplusplus
 }

@@ -31,7 +31,7 @@ drawingOf h pen = record { hints = h; pen = pen }
 
 module _ (st : HintState) where
   -- where no map is wanted, a path call leaves the hints as they are
-  idle-hints : (h : Hints) (b : Bool) → h .map .«is_valid» ≡ b → (path : Path) → wantsMap b path ≡ false →
+  pub idle-hints : (h : Hints) (b : Bool) → h .map .«is_valid» ≡ b → (path : Path) → wantsMap b path ≡ false →
       hintsOf st h (draw path) ≡ h
   idle-hints h true v path w = go (hasPoint path)
     where

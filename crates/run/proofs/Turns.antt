@@ -1,12 +1,12 @@
 -- Laws of a turn of a script's run: what each kind of command makes of the drawing, the words and
 -- the commands that are left. Assumes nothing.
-use mathlib.Core.Path.{_≡_, refl, sym, ap, _∙_}
+use mathlib.Core.Path.{_≡_, refl, sym, ap}
 use mathlib.Core.Bool.{Bool, true, false}
 use mathlib.Core.List.{List, _∷_, _++_}
 use Prim.Native.Nat.{ℕ, _+_, _-_, _≤_, _<_}
 use native.Mathlib.Omega.{arith}
 use lib.IntN.{ℤ}
-use lib.ListN.{length, take, drop}
+use lib.ListN.{take, drop}
 use Rattle.zones.specs.declared.state.HintState.{HintState}
 use Rattle.pen.specs.declared.strokes.Pen.{Pen}
 use Rattle.pen.specs.Strokes.{newPen}
@@ -21,29 +21,17 @@ use Rattle.hints.proofs.Steps.{DrewWords, DrewNothing}
 use Rattle.words.specs.declared.answer.Answer.{Answer}
 use Rattle.words.specs.declared.answer.Answer.the-variants.{Ok, NoRoom}
 use Rattle.words.specs.Words.{rawAt}
-use Rattle.words.specs.Answers.{firstOf}
 use Rattle.words.proofs.Answers.{says}
 use Rattle.commands.specs.declared.reading.Marking.{Marking}
 use Rattle.commands.specs.declared.reading.Marking.the-variants.{Bad, Stem, Mask, Counter, Clear, Close}
 use Rattle.commands.specs.declared.reading.Command.{Command}
 use Rattle.commands.specs.declared.reading.Command.the-variants.{Mark, Draw}
-use Rattle.commands.specs.Commands.{CommandAt, readAt, nextAt, commandsFrom, commandsOf}
-use Rattle.commands.specs.Faults.{hasBadMask, commandRows}
-use Rattle.commands.proofs.Laws.{first as first-command, none, from-start, faultless, mask-inside}
+use Rattle.commands.specs.Commands.{readAt, nextAt, commandsOf}
 use Rattle.run.specs.Room.{Step}
-use Rattle.run.specs.Run.{markCall, callOf, Asked, callsOf, stepsOf, maskEnd, ranOf, Ended, Runnable, wantsMap}
-use Rattle.run.specs.Run.{isClose}
+use Rattle.run.specs.Run.{markCall, callOf, callsOf, stepsOf, ranOf, Ended, Runnable, wantsMap, isClose}
+use Rattle.run.proofs.Reading.{callsAt, calls-start, calls-first, calls-none, Sound, sound, sound-behind}
 use Rattle.run.proofs.Filling.{begun, following, Stopped}
 use Rattle.run.proofs.Calls.{Standing, standing, marked, readied, drew, denied, finished}
-
--- a command whose mask is not past the mask bytes names bytes among them
-end-inside : (bytes : ℕ) (m : Marking) → hasBadMask bytes (Mark m) ≡ false → maskEnd m ≤ bytes
-end-inside bytes Bad e = omega arith
-end-inside bytes (Stem min max) e = omega arith
-end-inside bytes (Mask start len) e = mask-inside start len bytes e
-end-inside bytes (Counter start len) e = mask-inside start len bytes e
-end-inside bytes Clear e = omega arith
-end-inside bytes Close e = omega arith
 
 -- what writes nothing leaves the pen as it is
 pub mark-still : (st : HintState) (h : Hints) (pen : Pen) (s : List ℕ) (from : ℕ) (m : Marking) →
@@ -67,81 +55,53 @@ close-idle st h s from Close e = refl
 
 -- ---- how a run of a script's commands stands
 module _ (st : HintState) (s part : List ℕ) (first n from : ℕ) where
-  -- the commands from word at on, as calls
-  abbrev commandsAt : ℕ → List CommandAt
-  commandsAt at = commandsFrom (n - at) first (rawAt part) n at
-
-  abbrev callsAt : ℕ → List Asked
-  callsAt at = callsOf s from (commandsAt at)
-
   unfoldable pub allSteps : List Step
   allSteps = stepsOf st (newDrawing (st .scale)) (callsOf s from (commandsOf first (rawAt part) n))
 
   pub record Going (out₀ : List ℤ) (h : Hints) (pen : Pen) (next at : ℕ) (out : List ℤ) : Type 0 where
-    pub stands : Standing st allSteps out₀ (callsAt at) h pen next out
-    pub bytes : ℕ
-    pub inside : from + bytes ≤ length s
-    pub fine : firstOf (commandRows bytes (commandsAt at)) ≡ Ok
+    pub stands : Standing st allSteps out₀ (callsAt s part first n from at) h pen next out
+    pub sound : Sound s part first n from at
 
   -- before the first command
   pub going : Runnable s part first n from → (out : List ℤ) → Going out (newHints (st .scale)) newPen 0 0 out
   unfolding allSteps
   going r out =
-      let e = from-start first (rawAt part) n in
       record {
         stands =
             record {
               along =
-                  following (ap (λ (l : List CommandAt). stepsOf st (newDrawing (st .scale)) (callsOf s from l)) e)
+                  following (ap (stepsOf st (newDrawing (st .scale))) (calls-start s part first n from))
                   (begun allSteps out);
             };
-        bytes = r .bytes;
-        inside = r .inside;
-        fine = rw e at (r .faultless);
+        sound = sound s part first n from r;
       }
-
-  -- the call of the command at a word, and those behind it
-  calls-first : {at : ℕ} → at < n → {c : Command} → readAt (rawAt part) n at .command ≡ c →
-      callsAt at ≡ record { place = first + at; call = callOf s from c } ∷ callsAt (nextAt (rawAt part) at)
-  unfolding callsOf
-  calls-first {at} i e =
-      ap (callsOf s from) (first-command first (rawAt part) n at i) ∙
-      ap (λ (x : Command). record { place = first + at; call = callOf s from x } ∷ callsAt (nextAt (rawAt part) at)) e
 
   module _ {out₀ : List ℤ} {h : Hints} {pen : Pen} {next at : ℕ} {out : List ℤ} (g : Going out₀ h pen next at out)
       (i : at < n) where
-    -- behind the command at a word
-    behind : {k : Hints} {pen′ : Pen} {next′ : ℕ} {out′ : List ℤ} →
-        Standing st allSteps out₀ (callsAt (nextAt (rawAt part) at)) k pen′ next′ out′ →
-        Going out₀ k pen′ next′ (nextAt (rawAt part) at) out′
-    behind d =
-        record {
-          stands = d;
-          bytes = g .bytes;
-          inside = g .inside;
-          fine = faultless first (rawAt part) n (g .bytes) at i (g .fine) .1 .1;
-        }
+    -- the calls from the command at a word on
+    calls : {c : Command} → readAt (rawAt part) n at .command ≡ c →
+        Standing st allSteps out₀ (record { place = first + at; call = callOf s from c } ∷
+        callsAt s part first n from (nextAt (rawAt part) at)) h pen next out
+    calls e = standing (calls-first s part first n from i e) (g .stands)
 
-    -- the mask that a command names lies in the script
-    pub mask-there : {m : Marking} → readAt (rawAt part) n at .command ≡ Mark m → from + maskEnd m ≤ length s
-    mask-there {m} e =
-        let b = faultless first (rawAt part) n (g .bytes) at i (g .fine) .1 .0 in
-        omega (arith, g .inside, end-inside (g .bytes) m (ap (hasBadMask (g .bytes)) (sym e) ∙ b))
+    -- behind that command
+    behind : {k : Hints} {pen′ : Pen} {next′ : ℕ} {out′ : List ℤ} →
+        Standing st allSteps out₀ (callsAt s part first n from (nextAt (rawAt part) at)) k pen′ next′ out′ →
+        Going out₀ k pen′ next′ (nextAt (rawAt part) at) out′
+    behind d = record { stands = d; sound = sound-behind s part first n from (g .sound) i }
 
     -- a command that writes nothing
     pub turn-mark : {m : Marking} → readAt (rawAt part) n at .command ≡ Mark m →
         Going out₀ (hintsOf st h (markCall s from m)) pen next (nextAt (rawAt part) at) out
-    turn-mark {m} e = behind (marked (standing (calls-first i e) (g .stands)) (mark-still st h pen s from m))
+    turn-mark {m} e = behind (marked (calls e) (mark-still st h pen s from m))
 
     -- a call that wants a map
     pub turn-ready : {path : Path} → readAt (rawAt part) n at .command ≡ Draw path → hasPoint path ≡ true →
         Going out₀ (readyOf st h) pen next at out
     turn-ready e w =
         record {
-          stands = standing (sym (calls-first i e)) (readied (standing (calls-first i e) (g .stands)) w);
-          bytes = g .bytes;
-          inside = g .inside;
-          fine = g .fine;
+          stands = standing (sym (calls-first s part first n from i e)) (readied (calls e) w);
+          sound = g .sound;
         }
 
     module _ {path : Path} (e : readAt (rawAt part) n at .command ≡ Draw path)
@@ -150,20 +110,18 @@ module _ (st : HintState) (s part : List ℕ) (first n from : ℕ) where
       pub turn-drew : {said : Drawn} {k : ℕ} {exit : List ℤ} →
           DrewWords (strokeBy (h .map) (st .scale) pen path) (drop next out) said k exit →
           Going out₀ h (said .pen) (next + k) (nextAt (rawAt part) at) (take next out ++ exit)
-      turn-drew d = behind (drew (standing (calls-first i e) (g .stands)) w d)
+      turn-drew d = behind (drew (calls e) w d)
 
       -- and one that did not
       pub turn-refused : {said : Drawn} {exit : List ℤ} →
           DrewNothing (strokeBy (h .map) (st .scale) pen path) pen (drop next out) said exit →
           Stopped allSteps out₀ (NoRoom (first + at)) next out
-      turn-refused d = denied (standing (calls-first i e) (g .stands)) w d
+      turn-refused d = denied (calls e) w d
 
   -- after the last command
   pub turn-done : {out₀ : List ℤ} {h : Hints} {pen : Pen} {next at : ℕ} {out : List ℤ} → Going out₀ h pen next at out →
       n ≤ at → Stopped allSteps out₀ Ok next out
-  unfolding callsOf
-  turn-done {at = at} g i =
-      finished (standing (ap (callsOf s from) (none first (rawAt part) n (n - at) at i)) (g .stands))
+  turn-done g i = finished (standing (calls-none s part first n from i) (g .stands))
 
   -- where it ends is what a run gives
   pub ended : {out₀ : List ℤ} {answer : Answer} {next : ℕ} {out : List ℤ} → Stopped allSteps out₀ answer next out →

@@ -1,5 +1,6 @@
--- Any two outcomes that meet the contract of `run` are equal, over that contract as the toolchain
--- reads it: the result and every word of the output. Assumes nothing.
+-- Any two outcomes that meet the contract of `run` or of `hints_after` are equal, over that contract
+-- as the toolchain reads it: the result, and of the former every word of the output. Assumes
+-- nothing.
 use mathlib.Core.Path.{_≡_, sym, ap, _∙_}
 use Prim.Native.Nat.{ℕ}
 use borrow.Fn.Kinds.{endedOf}
@@ -10,6 +11,9 @@ use denote.Ref.{now}
 use Rattle.words.specs.declared.answer.Answer.{Answer}
 use Rattle.words.proofs.Answers.{says-is}
 use Rattle.run.specs.declared.running.Ran.{Ran}
+use Rattle.run.proofs.hinting.hints_after as hints-after
+use Rattle.run.proofs.hinting.hints_after.Kinds as hints-after-kinds
+use Rattle.run.proofs.hinting.hints_after.Reads as hints-after-reads
 use Rattle.run.proofs.running.run as run
 use Rattle.run.proofs.running.run.Kinds as run-kinds
 use Rattle.run.proofs.running.run.Reads as run-reads
@@ -25,3 +29,8 @@ module _ (κs : Lfts 3) (a : ArgsD run.signature κs) (r r′ : ResD run.signatu
       (r ≡ r′) × (now (x .1 .1 .1 .1 .1 .1 .0) ≡ now (x′ .1 .1 .1 .1 .1 .1 .0))
   run-unique p q =
       (ran (says-is (p .answer) ∙ sym (says-is (q .answer))) (p .words ∙ sym (q .words)), p .memory ∙ sym (q .memory))
+
+module _ (κs : Lfts 1) (a : ArgsD hints-after.signature κs) (r r′ : ResD hints-after.signature κs)
+    (x x′ : AtExit (endedOf 1 hints-after-kinds.ps hints-after-kinds.r) κs) where
+  pub hints-after-unique : hints-after-reads.Post κs a r x → hints-after-reads.Post κs a r′ x′ → r ≡ r′
+  hints-after-unique p q = p ∙ sym q

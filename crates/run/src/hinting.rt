@@ -30,24 +30,21 @@ pub fn hints_after(
         .hints ⌝ }
 {
     let start = 4 * first;
-    let part = &script[start..];
     let mut hints = Hints::new(state.scale);
-    let mut left = commands;
     let mut at = 0;
-    while at < n {
-        if left == 0 {
+    for _ in 0..commands {
+        if at >= n {
             return hints;
         }
-        let read = read_command(part, n, at);
+        // Only where there are commands must their first word lie in the script.
+        let read = read_command(&script[start..], n, at);
         let command = read.command;
-        left = left - 1;
         at = read.next;
         match command {
             Command::Mark(marking) => {
-                if is_close(marking) {
-                    continue;
+                if !is_close(marking) {
+                    hints = marked(state, hints, script, from, marking);
                 }
-                hints = marked(state, hints, script, from, marking);
             }
             Command::Draw(path) => {
                 if wants_map(path, hints.map.is_valid) {

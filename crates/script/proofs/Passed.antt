@@ -1,13 +1,14 @@
 -- What a script that passes all tests has. Assumes nothing.
-use mathlib.Core.Path.{_≡_, refl, ap}
+use mathlib.Core.Path.{_≡_, refl, ap, _∙_}
 use mathlib.Core.Bool.{Bool, true, false}
 use mathlib.Core.List.{List, _++_}
 use Prim.Native.Nat.{ℕ, _*_}
 use native.Mathlib.Omega.{arith}
 use lib.IntN.{ℤ}
-use lib.ListN.{length, drop, length-drop}
+use lib.ListN.{length, take, drop, length-drop}
 use Rattle.fixed.specs.declared.Fixed.{Fixed}
 use Rattle.zones.specs.State.{emBox, stateBy, stateOf}
+use Rattle.hints.specs.declared.hints.Hints.{Hints}
 use Rattle.hints.specs.Calls.{newDrawing}
 use Rattle.words.specs.declared.answer.Answer.the-variants.{Ok}
 use Rattle.words.specs.Words.{rawAt, numberAt}
@@ -20,8 +21,8 @@ use Rattle.header.proofs.Fine.{Fine, fine, whole, header-refusing, params-refus
 use Rattle.commands.specs.Faults.{commandRows}
 use Rattle.commands.proofs.Laws.{rows-refusing}
 use Rattle.run.specs.Room.{fitted}
-use Rattle.run.specs.Run.{stepsOf, endingOf, ranOf, Runnable}
-use Rattle.script.specs.Script.{commandsIn, callsIn, checkRows, zonesOf, stepsIn}
+use Rattle.run.specs.Run.{stepsOf, drawingAfter, endingOf, ranOf, Runnable}
+use Rattle.script.specs.Script.{commandsIn, callsIn, checkRows, zonesOf, mapAt, stepsIn}
 
 -- every test of a script refuses
 pub checks-refusing : (s : List ℕ) → Refusing Ok (checkRows s)
@@ -77,3 +78,11 @@ unfolding ranOf stepsIn
 ran s out =
     ap (λ (x : Fixed). endingOf (fitted (length out) (stepsOf (zonesOf s) (newDrawing x) (callsIn s))) out)
     (zones-scale s)
+
+-- the map among the hints that their first k leave is that of the script
+pub seen : (s : List ℕ) (k : ℕ) {h : Hints} →
+    h ≡ drawingAfter (zonesOf s) (newDrawing (zonesOf s .scale)) (take k (callsIn s)) .hints → h .map ≡ mapAt s k
+unfolding mapAt
+seen s k e =
+    ap (λ (h : Hints). h .map) e ∙
+    ap (λ (x : Fixed). drawingAfter (zonesOf s) (newDrawing x) (take k (callsIn s)) .hints .map) (zones-scale s)

@@ -5,6 +5,7 @@ use Prim.Native.Nat.{ℕ}
 use lib.IntN.{ℤ}
 use Rattle.words.specs.Answers.{numberOf, placeOf}
 use Rattle.script.specs.Script.{Result}
+use Rattle.overlay.specs.Seen.{SeenResult, seenNumber, seenPlace, seenSummary}
 use Rattle.writer.specs.Refusals.{WriteResult, writeNumber, writePlace, writtenBytes}
 
 pub record Returned (o : Result) (said : ℕ) (left : List ℤ) (at : ℕ) : Type 0 where
@@ -17,3 +18,12 @@ pub record WriteReturned (o : WriteResult) (said : ℕ) (left : List ℕ) (bytes
   pub memory : left ≡ o .left
   pub written : bytes ≡ writtenBytes (o .answer)
   pub place : at ≡ writePlace (o .answer)
+
+pub record EdgesReturned (o : SeenResult) (said : ℕ) (left : List ℤ) (edges pairs ghosts locked at : ℕ) : Type 0 where
+  pub number : said ≡ seenNumber (o .answer)
+  pub memory : left ≡ o .left
+  pub edges : edges ≡ seenSummary (o .answer) .edges
+  pub pairs : pairs ≡ seenSummary (o .answer) .pairs
+  pub ghosts : ghosts ≡ seenSummary (o .answer) .ghosts
+  pub locked : locked ≡ seenSummary (o .answer) .locked
+  pub place : at ≡ seenPlace (o .answer)

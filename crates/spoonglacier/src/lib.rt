@@ -5,7 +5,8 @@ ghost use Rattle.script.specs.Script.{scriptOf};
 ghost use Rattle.writer.specs.ToWrite.{given};
 ghost use Rattle.writer.specs.ParamWords.{paramsIn};
 ghost use Rattle.writer.specs.Refusals.{writeOf};
-ghost use Rattle.spoonglacier.specs.Exported.{Returned, WriteReturned};
+ghost use Rattle.overlay.specs.Seen.{seenOf};
+ghost use Rattle.spoonglacier.specs.Exported.{Returned, WriteReturned, EdgesReturned};
 
 // Runs a script into a lent output; answers 01's number, and leaves its place behind the last
 // pointer.
@@ -41,4 +42,31 @@ pub extern "C" fn spoonglacier_write(
     *written = wrote.written();
     *place = wrote.place();
     wrote.code()
+}
+
+// Lists the edges of the map that a script has after its first so many commands, six words a
+// record; answers the look's number, and leaves the summary's four counts and the place behind the
+// last five pointers.
+#[no_mangle]
+pub extern "C" fn spoonglacier_edges(
+    script: &[u8],
+    commands: usize,
+    list: &mut [i32],
+    edges: &mut usize,
+    pairs: &mut usize,
+    ghosts: &mut usize,
+    locked: &mut usize,
+    place: &mut usize,
+) -> u32
+    ensures { λ r. ⌜ EdgesReturned (seenOf (now (script .entry)) commands (now (list .entry))) r (now (list .exit))
+        (now (edges .exit)) (now (pairs .exit)) (now (ghosts .exit)) (now (locked .exit)) (now (place .exit)) ⌝ }
+{
+    let seen = overlay::see_edges(script, commands, list);
+    let summary = seen.summary();
+    *edges = summary.edges;
+    *pairs = summary.pairs;
+    *ghosts = summary.ghosts;
+    *locked = summary.locked;
+    *place = seen.place();
+    seen.code()
 }

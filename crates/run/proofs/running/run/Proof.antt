@@ -21,7 +21,8 @@ use Rattle.commands.specs.Commands.{readAt, nextAt}
 use Rattle.commands.proofs.Laws.{next-is, lent}
 use Rattle.run.specs.Run.{wantsMap}
 use Rattle.run.proofs.Filling.{back}
-use Rattle.run.proofs.Turns.{close-idle, Going, going, mask-there, turn-mark, turn-ready, turn-drew}
+use Rattle.run.proofs.Reading.{mask-there}
+use Rattle.run.proofs.Turns.{close-idle, Going, going, turn-mark, turn-ready, turn-drew}
 use Rattle.run.proofs.Turns.{turn-refused, turn-done, ended, unready, unready-one, wanted}
 use Rattle.run.proofs.running.run.Statement.{statement}
 use Rattle.run.proofs.running.run.Tie as tie
@@ -144,7 +145,7 @@ marked-requires c κs =
     let m = c .before .before .before in
     let l = mark-turn m in
     let a = begin l .args in
-    mask-there (a .state) (a .script .now) (a .part .now) (a .first) (a .n) (a .from) (l .loop .inv)
+    mask-there (a .script .now) (a .part .now) (a .first) (a .n) (a .from) (l .loop .inv .sound)
     (m .before .before .before .loop-test .taken) (mark-is m)
 
 loop-less-2 : tie.Need-loop-less-2 Inv-loop μ-loop
