@@ -18,7 +18,7 @@ one-digit : (f n : ℕ) → n < 10 → length (digitsBy (suc f) n) ≤ 1
 one-digit f n h = rw (digits-one f n h) (omega arith)
 
 -- a number below 10 ^ g has g digits at most
-digits-room : (f g n : ℕ) → n < 10 ^ suc g → length (digitsBy f n) ≤ suc g
+pub digits-room : (f g n : ℕ) → n < 10 ^ suc g → length (digitsBy f n) ≤ suc g
 unfolding digitsBy
 digits-room zero g n h = omega arith
 digits-room (suc f) zero n h = one-digit f n (omega arith)
