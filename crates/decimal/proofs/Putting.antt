@@ -52,3 +52,15 @@ module _ (b : List ℕ) (at : ℕ) where
       memory =
           q .memory ∙ ap (λ (l : List ℕ). placed l end ys) (p .memory) ∙ placed-behind b at xs h ys end (p .ends);
     }
+
+-- ---- the room of two texts is that of the first and, behind it, that of the second
+pub room-first : (at n : ℕ) (xs ys : List ℕ) → at + length (xs ++ ys) ≤ n → at + length xs ≤ n
+room-first at n xs ys h = omega (arith, h, length-append xs ys)
+
+module _ (b : List ℕ) (at : ℕ) (xs ys : List ℕ) (h : at + length (xs ++ ys) ≤ length b) where
+  pub room-rest : {end : ℕ} {left : List ℕ} → Put xs at b end left → end + length ys ≤ length left
+  room-rest p = omega (arith, h, length-append xs ys, p .ends, put-length b at xs (room-first at (length b) xs ys h) p)
+
+  pub put-both : {mid end : ℕ} {among left : List ℕ} → Put xs at b mid among → Put ys mid among end left →
+      Put (xs ++ ys) at b end left
+  put-both p q = put-behind b at xs (room-first at (length b) xs ys h) p ys q
