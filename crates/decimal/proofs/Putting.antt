@@ -8,7 +8,7 @@ use lib.ListN.{length, take, drop, set, length-append, drop-of-length-le, length
 use lib.Seq.{drop-drop}
 use borrow.Rule.Slice.PartMut.{midOf, putMid}
 use Rattle.words.specs.Bytes.{over, placed}
-use Rattle.words.proofs.Placing.{placed-none, placed-length, placed-store, placed-behind}
+use Rattle.words.proofs.Placing.{placed-start, placed-none, placed-length, placed-store, placed-behind}
 use Rattle.decimal.specs.Decimal.{Put}
 
 module _ (b : List ℕ) (at : ℕ) where
@@ -64,3 +64,9 @@ module _ (b : List ℕ) (at : ℕ) (xs ys : List ℕ) (h : at + length (xs ++ ys
   pub put-both : {mid end : ℕ} {among left : List ℕ} → Put xs at b mid among → Put ys mid among end left →
       Put (xs ++ ys) at b end left
   put-both p q = put-behind b at xs (room-first at (length b) xs ys h) p ys q
+
+-- what is put at the start ends within what is left
+pub put-within : {xs b left : List ℕ} {end : ℕ} → Put xs 0 b end left → end ≤ length left
+unfolding over
+put-within {xs} {b} p =
+    omega (arith, p .ends, ap length (p .memory ∙ placed-start b xs), length-append xs (drop (length xs) b))
