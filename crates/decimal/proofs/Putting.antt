@@ -36,7 +36,8 @@ module _ (b : List ℕ) (at : ℕ) where
       putMid at k b left ≡ placed b at xs
   unfolding over placed
   put-part xs left k e h =
-      let d : drop (length xs) (take k (drop at b)) ≡ [] = drop-of-length-le (take k (drop at b)) {i = length xs} (omega (arith, e, length-take k (drop at b))) in
+      let n : length (take k (drop at b)) ≤ length xs = omega (arith, e, length-take k (drop at b)) in
+      let d : drop (length xs) (take k (drop at b)) ≡ [] = drop-of-length-le (take k (drop at b)) n in
       let f : left ≡ xs = h ∙ ap (λ (r : List ℕ). xs ++ r) d ∙ append-nil xs in
       rw (f, drop-drop k at b, e)
 

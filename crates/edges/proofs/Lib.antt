@@ -3,3 +3,4 @@ pub mod Parts
 pub mod Maps
 pub mod Digits
 pub mod Pages
+pub mod Unique

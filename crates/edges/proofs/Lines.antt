@@ -3,7 +3,7 @@
 use mathlib.Core.Path.{_≡_, refl, sym, ap, _∙_}
 use mathlib.Core.Bool.{Bool, true, false, cond}
 use mathlib.Core.List.{List, [], _∷_, _++_, append-nil, append-assoc}
-use Prim.Native.Nat.{ℕ, _+_, _^_, _≤_, _<_}
+use Prim.Native.Nat.{ℕ, _+_, _≤_, _<_}
 use native.Mathlib.Omega.{arith}
 use lib.Dec.{eqb}
 use lib.ListN.{length, length-append}
@@ -60,12 +60,20 @@ pub line-room : (r : EdgeRecord) → SFits w32 (r .height .bits) → SFits w32 (
     length (lineOf r) ≤ 100
 unfolding lineOf
 line-room r f g h =
-    omega
-    (arith, length-append (decimalText (r .height .bits)) (behindUnits r), length-append unitsText (fromPixels r),
-    length-append (decimalText (r .device .bits)) (behindPixels r), length-append pixelsText (fromKind r),
-    length-append (kindText (r .kind)) (fromStem r), length-append (stemText (r .stem)) (endText (r .locked)),
-    decimal-room (r .height .bits) f, decimal-room (r .device .bits) g, kind-room (r .kind), stem-room (r .stem) h,
-    end-room (r .locked))
+    omega (
+      arith,
+      length-append (decimalText (r .height .bits)) (behindUnits r),
+      length-append unitsText (fromPixels r),
+      length-append (decimalText (r .device .bits)) (behindPixels r),
+      length-append pixelsText (fromKind r),
+      length-append (kindText (r .kind)) (fromStem r),
+      length-append (stemText (r .stem)) (endText (r .locked)),
+      decimal-room (r .height .bits) f,
+      decimal-room (r .device .bits) g,
+      kind-room (r .kind),
+      stem-room (r .stem) h,
+      end-room (r .locked),
+    )
 
 -- ---- lines behind lines
 pub lines-more : (rs : List EdgeRecord) (r : EdgeRecord) → linesOf (rs ++ (r ∷ [])) ≡ linesOf rs ++ lineOf r

@@ -1,7 +1,7 @@
 -- The page by whether the script is refused, and by whether the argument is a number. Assumes
 -- nothing.
-use mathlib.Core.Path.{_≡_, ap, _∙_}
-use mathlib.Core.Bool.{Bool, true, false, not, cond}
+use mathlib.Core.Path.{_≡_, ap}
+use mathlib.Core.Bool.{Bool, not, cond}
 use mathlib.Core.List.{List}
 use Prim.Native.Nat.{ℕ}
 use lib.Dec.{eqb}
@@ -15,7 +15,8 @@ module _ (s : List ℕ) (k : ℕ) where
   abbrev answer : Answer
   answer = firstOf (checkRows s)
 
-  by-answer : {b : Bool} → eqb (numberOf answer) 0 ≡ b → pageOf s k ≡ cond (not b) (refusalLine answer) (mapText (mapAt s k))
+  by-answer : {b : Bool} → eqb (numberOf answer) 0 ≡ b →
+      pageOf s k ≡ cond (not b) (refusalLine answer) (mapText (mapAt s k))
   unfolding pageOf
   by-answer e = ap (λ (t : Bool). cond (not t) (refusalLine answer) (mapText (mapAt s k))) e
 
@@ -25,6 +26,7 @@ module _ (s : List ℕ) (k : ℕ) where
   pub page-drawn : numberOf answer ≡ 0 → pageOf s k ≡ mapText (mapAt s k)
   page-drawn e = by-answer (eq-eqb (numberOf answer) 0 e)
 
-pub by-argument : (s ds : List ℕ) {b : Bool} → isNumber ds ≡ b → askedPage s ds ≡ cond b (pageOf s (askedIn ds)) notNumber
+pub by-argument : (s ds : List ℕ) {b : Bool} → isNumber ds ≡ b →
+    askedPage s ds ≡ cond b (pageOf s (askedIn ds)) notNumber
 unfolding askedPage
 by-argument s ds e = ap (λ (t : Bool). cond t (pageOf s (askedIn ds)) notNumber) e

@@ -41,11 +41,13 @@ module _ (s : Summary) where
   pub summary-room : s .edges ≤ 96 → s .pairs ≤ 96 → s .ghosts ≤ 96 → s .locked ≤ 96 → length (summaryLine s) ≤ 100
   unfolding summaryLine
   summary-room e p g l =
-      omega
-      (arith, part-length edgesText (s .edges) fromPairs (omega (arith, e)),
-      part-length pairsText (s .pairs) fromGhosts (omega (arith, p)),
-      part-length ghostsText (s .ghosts) fromLocked (omega (arith, g)),
-      part-length lockedText (s .locked) (endText false) (omega (arith, l)))
+      omega (
+        arith,
+        part-length edgesText (s .edges) fromPairs (omega (arith, e)),
+        part-length pairsText (s .pairs) fromGhosts (omega (arith, p)),
+        part-length ghostsText (s .ghosts) fromLocked (omega (arith, g)),
+        part-length lockedText (s .locked) (endText false) (omega (arith, l)),
+      )
 
 -- ---- a refusal
 abbrev pub fromPlace : ℕ → List ℕ

@@ -82,7 +82,8 @@ module _ (c : tie.After-bits-of2) where
 
   above : decimalText (plain .args .x .bits) ≡ sizeText (c .bits-of2 .result)
   above =
-      text-above (plain .args .x .bits) (fit plain) (rw (toZ-ofZ (fit plain)) at (c .before .before .before .if1 .left)) ∙
+      let e = c .before .before .before in
+      text-above (plain .args .x .bits) (fit plain) (rw (toZ-ofZ (fit plain)) at (e .if1 .left)) ∙
       ap sizeText (sym (c .bits-of2 .ensures ∙ ap bitsOf (toZ-ofZ (fit plain))))
 
 put-size-requires-2 : tie.Need-put-size-requires-2

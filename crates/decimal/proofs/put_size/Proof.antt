@@ -48,7 +48,8 @@ module _ (c : tie.Else1) where
   split : behind (rest number) ≡ 46 ∷ fractionBy 16 (rest number)
   split = behind-some (rest number) (c .if1 .left)
 
-  inside : number .put-number .result + suc (length (fractionBy 16 (rest number))) ≤ length (number .put-number .last .0)
+  inside : number .put-number .result + suc (length (fractionBy 16 (rest number))) ≤
+      length (number .put-number .last .0)
   inside = omega (arith, room number, long number, number .put-number .ensures .ends, ap length split)
 
 same-length : tie.Need-same-length

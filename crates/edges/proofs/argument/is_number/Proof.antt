@@ -1,12 +1,11 @@
 -- `is_number` looks at each byte. The loop's invariant: those that are left answer for all. Assumes
 -- nothing.
-use mathlib.Core.Path.{_≡_, refl, sym, ap, _∙_}
-use mathlib.Core.Bool.{Bool, true, false}
-use mathlib.Core.List.{List, []}
-use Prim.Native.Nat.{ℕ, _+_, _-_, _≤_, _<_}
+use mathlib.Core.Path.{_≡_, refl, sym, _∙_}
+use mathlib.Core.Bool.{Bool}
+use mathlib.Core.List.{List}
+use Prim.Native.Nat.{ℕ, _-_, _≤_, _<_}
 use native.Mathlib.Omega.{arith}
-use lib.ListN.{length, drop, getD}
-use lib.Seq.{drop-length}
+use lib.ListN.{length, drop}
 use borrow.Author.Needs.{needs}
 use Rattle.edges.specs.Page.{allDigits, isNumber}
 use Rattle.edges.proofs.Digits.{none-number, some-number, too-low, too-high, digit-passes, all-passed}

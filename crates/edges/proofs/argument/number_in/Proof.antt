@@ -2,11 +2,9 @@
 -- invariant: the digits that are left, behind what those before them say, answer for all. Assumes
 -- nothing.
 use mathlib.Core.Path.{_≡_, refl, sym, ap, _∙_}
-use mathlib.Core.List.{List, []}
-use Prim.Native.Nat.{ℕ, _+_, _*_, _-_, _≤_, _<_, min}
+use Prim.Native.Nat.{ℕ, _+_, _*_, _-_, _≤_, min}
 use native.Mathlib.Omega.{arith}
 use lib.ListN.{length, drop, getD}
-use lib.Seq.{drop-length}
 use borrow.Author.Needs.{needs}
 use Rattle.decimal.specs.Decimal.{readOn}
 use Rattle.edges.specs.Page.{askedIn}

@@ -1,7 +1,7 @@
 -- `put_refusal` puts number and place one behind the other. Assumes nothing.
 use mathlib.Core.Path.{_≡_, refl, sym, ap, _∙_}
 use mathlib.Core.Bool.{false}
-use mathlib.Core.List.{List, _++_}
+use mathlib.Core.List.{_++_}
 use Prim.Native.Nat.{ℕ, _+_, _%_, _≤_, _<_}
 use native.Mathlib.Omega.{arith}
 use lib.ListN.{length}
@@ -76,7 +76,8 @@ returns c =
     let k = n .before in
     let a = start k .args .answer in
     let line : refusalLine a ≡ part refusedText (k .code .result) ++ fromPlace (place p) =
-    refusal-split a ∙ ap (λ (m : ℕ). part refusedText m ++ fromPlace (placeOf a % 4294967296)) (sym (k .code .ensures)) ∙
+    refusal-split a ∙
+    ap (λ (m : ℕ). part refusedText m ++ fromPlace (placeOf a % 4294967296)) (sym (k .code .ensures)) ∙
     ap (λ (m : ℕ). part refusedText (k .code .result) ++ fromPlace (m % 4294967296)) (sym (p .place .ensures)) in
     put-same _ _ line refl refl
     (put-both _ _ (part refusedText (k .code .result)) (fromPlace (place p)) (room k (place p) (omega arith))

@@ -94,7 +94,8 @@ put-count-requires-4 c κs =
 put-end-requires : tie.Need-put-end-requires
 put-end-requires c κs =
     let d = c .before .before .before in
-    room-rest _ _ (part lockedText (sum3 (start4 d) .locked)) (endText false) (ghosts (start4 d)) (d .put-count4 .ensures)
+    let g = start4 d in
+    room-rest _ _ (part lockedText (sum3 g .locked)) (endText false) (ghosts g) (d .put-count4 .ensures)
 
 same-length : tie.Need-same-length
 same-length c = search needs

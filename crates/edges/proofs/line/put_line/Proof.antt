@@ -140,7 +140,8 @@ returns c =
     (put-both _ _ (decimalText (r .device .bits)) (behindPixels r) (middle m) (d .put-decimal2 .ensures)
     (put-both _ _ pixelsText (fromKind r) (pixels d) (t .put-text2 .ensures)
     (put-both _ _ (kindText (r .kind)) (fromStem r) (next t) (k .put-kind .ensures)
-    (put-both _ _ (stemText (r .stem)) (endText (r .locked)) (named k) (s .put-stem .ensures) (e .put-end .ensures)))))))
+    (put-both _ _ (stemText (r .stem)) (endText (r .locked)) (named k) (s .put-stem .ensures)
+    (e .put-end .ensures)))))))
 
 pub put-line-spec : {M : Type 1} → statement M
 put-line-spec =

@@ -1,9 +1,6 @@
 -- `page` puts the refusal of a script, or its map. Assumes nothing.
 use mathlib.Core.Path.{_≡_, refl, sym, ap, _∙_}
-use native.Mathlib.Omega.{arith}
 use borrow.Author.Needs.{needs}
-use Rattle.hintmap.specs.declared.map.HintMap.{HintMap}
-use Rattle.words.specs.declared.answer.Answer.{Answer}
 use Rattle.words.specs.Answers.{numberOf, firstOf}
 use Rattle.words.proofs.Answers.{is-ok}
 use Rattle.script.specs.Script.{checkRows}

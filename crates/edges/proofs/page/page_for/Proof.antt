@@ -24,7 +24,8 @@ returns : tie.Need-returns
 returns c =
     let t = c .before .before .before .before .before in
     let a = t .before .before .before .before .before .args in
-    put-same _ _ (by-argument (a .script .now) (a .text .now) (sym (t .before .is-number .ensures) ∙ not-true _ (t .if1 .taken)))
+    put-same _ _
+    (by-argument (a .script .now) (a .text .now) (sym (t .before .is-number .ensures) ∙ not-true _ (t .if1 .taken)))
     refl refl
     (c .before .before .put-text .ensures)
 

@@ -2,7 +2,7 @@
 -- records are put, of 100 bytes at most each. Assumes nothing.
 use mathlib.Core.Path.{_≡_, refl, sym, ap, _∙_}
 use mathlib.Core.List.{List, _++_}
-use Prim.Native.Nat.{ℕ, _+_, _*_, _-_, _≤_, _<_}
+use Prim.Native.Nat.{ℕ, _+_, _*_, _-_, _≤_}
 use native.Mathlib.Omega.{arith}
 use lib.ListN.{length, take}
 use lib.Seq.{take-all}
@@ -13,7 +13,7 @@ use Rattle.hintmap.specs.declared.map.HintMap.{HintMap}
 use Rattle.hintmap.proofs.Near.{held-long}
 use Rattle.listing.specs.declared.record.EdgeRecord.{EdgeRecord}
 use Rattle.listing.specs.declared.summary.Summary.{Summary}
-use Rattle.listing.specs.Records.{recordAt, recordsOf, summaryOf}
+use Rattle.listing.specs.Records.{recordsOf, summaryOf}
 use Rattle.decimal.specs.Decimal.{Put}
 use Rattle.decimal.proofs.Putting.{put-none, put-same, put-length, put-behind}
 use Rattle.edges.specs.Page.{lineOf, linesOf, summaryLine, mapText}
@@ -108,7 +108,8 @@ loop-again c =
     ap linesOf (record-more (of-map l) (held l) i (omega (arith, all l))) ∙ lines-more (take i rs) _ ∙
     ap (λ (q : EdgeRecord). lines l ++ lineOf q) (sym (p .before .of .ensures)) in
     let q = put-behind _ _ (lines l) (room l) (l .loop .inv .0) (lineOf r) (p .put-line .ensures) in
-    (put-same _ _ e refl refl q, (omega (arith, p .put-line .ensures .ends, line (p .before)), (omega arith, omega arith)))
+    let n : p .put-line .result ≤ 100 * (i + 1) = omega (arith, p .put-line .ensures .ends, line (p .before)) in
+    (put-same _ _ e refl refl q, (n, (omega arith, omega arith)))
 
 put-summary-requires : tie.Need-put-summary-requires Inv-loop μ-loop
 put-summary-requires c κs =
