@@ -117,7 +117,7 @@ allDigits (d ∷ ds) = leb 48 d && (ltb d 58 && allDigits ds)
 abbrev pub isNumber : List ℕ → Bool
 isNumber ds = not (eqb (length ds) 0) && allDigits ds
 
--- how many commands digits ask for; no script has as many as the most that are told apart
+-- how many commands digits ask for, up to a number that no script of 65,536 bytes has
 unfoldable pub askedIn : List ℕ → ℕ
 askedIn ds = min (readOn 0 ds) 4294967295
 
