@@ -5,13 +5,8 @@ ghost use Prim.Native.Nat.{_+_, _≤_, _<_};
 ghost use lib.ListN.{length};
 ghost use Rattle.decimal.specs.Decimal.{Put, numberText, fractionBy, sizeText, decimalText};
 
-// The most digits of a number of 32 bits, those of a fraction in 65536ths, and the most bytes of a
-// number in 16.16: a sign, the digits of 32768, a point and such a fraction.
-pub const MOST_DIGITS: usize = 10;
-
-pub const FRACTION_DIGITS: usize = 16;
-
-pub const DECIMAL_BYTES: usize = 23;
+// The most digits of a fraction in 65536ths.
+const FRACTION_DIGITS: usize = 16;
 
 // Puts some text at a place of some bytes; answers where it ends.
 pub fn put_text(out: &mut [u8], at: usize, text: &[u8]) -> usize

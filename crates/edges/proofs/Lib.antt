@@ -1,0 +1,6 @@
+pub mod Lines
+pub mod Parts
+pub mod Maps
+pub mod Digits
+pub mod Pages
+pub mod Unique
