@@ -1,14 +1,11 @@
--- Laws of texts put at a place: none, one byte by a store, one behind another; and no byte is lost.
--- Assumes nothing.
+-- Laws of texts put at a place: none, one behind another; and no byte is lost. Assumes nothing.
 use mathlib.Core.Path.{_≡_, sym, ap, _∙_}
-use mathlib.Core.List.{List, [], _∷_, _++_, append-nil}
-use Prim.Native.Nat.{ℕ, _+_, _≤_, _<_}
+use mathlib.Core.List.{List, [], _++_}
+use Prim.Native.Nat.{ℕ, _+_, _≤_}
 use native.Mathlib.Omega.{arith}
-use lib.ListN.{length, take, drop, set, length-append, drop-of-length-le, length-take}
-use lib.Seq.{drop-drop}
-use borrow.Rule.Slice.PartMut.{midOf, putMid}
+use lib.ListN.{length, drop, length-append}
 use Rattle.words.specs.Bytes.{over, placed}
-use Rattle.words.proofs.Placing.{placed-start, placed-none, placed-length, placed-store, placed-behind}
+use Rattle.words.proofs.Placing.{placed-start, placed-none, placed-length, placed-behind}
 use Rattle.decimal.specs.Decimal.{Put}
 
 module _ (b : List ℕ) (at : ℕ) where
@@ -22,23 +19,6 @@ module _ (b : List ℕ) (at : ℕ) where
     ends = f ∙ p .ends ∙ ap (λ (l : List ℕ). at + length l) (sym e);
     memory = g ∙ p .memory ∙ ap (placed b at) (sym e);
   }
-
-  -- the first byte by a store
-  pub put-first : (x : ℕ) (xs : List ℕ) {end : ℕ} {left : List ℕ} → at < length b →
-      Put xs (at + 1) (set b at x) end left → Put (x ∷ xs) at b end left
-  put-first x xs h p = record { ends = omega (arith, p .ends); memory = p .memory ∙ placed-store b at x xs h }
-
-  pub put-byte : (x : ℕ) → at < length b → Put (x ∷ []) at b (at + 1) (set b at x)
-  put-byte x h = put-first x [] h record { ends = omega arith; memory = sym (placed-none (set b at x) (at + 1)) }
-
-  -- a text at a part that has its length
-  pub put-part : (xs left : List ℕ) (k : ℕ) → k ≡ length xs → left ≡ over xs (midOf at k b) →
-      putMid at k b left ≡ placed b at xs
-  unfolding over placed
-  put-part xs left k e h =
-      let d : drop (length xs) (take k (drop at b)) ≡ [] = drop-of-length-le (take k (drop at b)) {i = length xs} (omega (arith, e, length-take k (drop at b))) in
-      let f : left ≡ xs = h ∙ ap (λ (r : List ℕ). xs ++ r) d ∙ append-nil xs in
-      rw (f, drop-drop k at b, e)
 
   module _ (xs : List ℕ) (h : at + length xs ≤ length b) {end : ℕ} {left : List ℕ} (p : Put xs at b end left) where
     pub put-length : length left ≡ length b

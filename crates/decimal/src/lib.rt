@@ -23,12 +23,12 @@ pub fn put_number(out: &mut [u8], at: usize, n: u32) -> usize
     requires { ⌜ at + length (numberText n) ≤ length (now out) ⌝ }
     ensures { λ r. ⌜ Put (numberText n) at (now (out .entry)) r (now (out .exit)) ⌝ }
 {
-    let mut next = at;
-    if 9 < n {
-        next = put_number(out, at, n / 10);
+    let digit = 48 + (n % 10) as u8;
+    if n < 10 {
+        return put_text(out, at, &[digit]);
     }
-    out[next] = 48 + (n % 10) as u8;
-    next + 1
+    let next = put_number(out, at, n / 10);
+    put_text(out, next, &[digit])
 }
 
 // Puts the digits of a fraction in 65536ths, `left` of them at most.
@@ -42,9 +42,9 @@ fn put_fraction(out: &mut [u8], at: usize, n: u32, left: usize) -> usize
     if n == 0 {
         return at;
     }
-    let tens = 10 * n;
-    out[at] = 48 + (tens / 65536) as u8;
-    put_fraction(out, at + 1, tens % 65536, left - 1)
+    let tens = n * 10;
+    let next = put_text(out, at, &[48 + (tens / 65536) as u8]);
+    put_fraction(out, next, tens % 65536, left - 1)
 }
 
 // Puts so many 65536ths.
@@ -57,8 +57,8 @@ fn put_size(out: &mut [u8], at: usize, n: u32) -> usize
     if rest == 0 {
         return point;
     }
-    out[point] = 46;
-    put_fraction(out, point + 1, rest, FRACTION_DIGITS)
+    let next = put_text(out, point, &[46]);
+    put_fraction(out, next, rest, FRACTION_DIGITS)
 }
 
 // Puts a number in 16.16, exactly.
@@ -66,9 +66,10 @@ pub fn put_decimal(out: &mut [u8], at: usize, x: Fixed) -> usize
     requires { ⌜ at + length (decimalText (x .bits)) ≤ length (now out) ⌝ }
     ensures { λ r. ⌜ Put (decimalText (x .bits)) at (now (out .entry)) r (now (out .exit)) ⌝ }
 {
+    let size = bits_of(x.abs().bits);
     if x.bits < 0 {
-        out[at] = 45;
-        return put_size(out, at + 1, bits_of(x.neg().bits));
+        let next = put_text(out, at, &[45]);
+        return put_size(out, next, size);
     }
-    put_size(out, at, bits_of(x.bits))
+    put_size(out, at, size)
 }

@@ -1,111 +1,108 @@
--- `put_decimal` puts a minus before the magnitude of a number below 0. Assumes nothing.
-use mathlib.Core.Path.{_≡_, refl, sym, ap, _∙_}
-use mathlib.Core.List.{_∷_}
-use Prim.Native.Nat.{ℕ, suc, _+_, _≤_}
+-- `put_decimal` puts a minus before the magnitude of a number below 0, which 32 bits hold. Assumes
+-- nothing.
+use mathlib.Core.Path.{_≡_, sym, ap, _∙_}
+use mathlib.Core.Bool.{true, false, true≢false}
+use mathlib.Core.List.{[], _∷_, _++_}
+use Prim.Native.Nat.{ℕ, _+_, _≤_, _<_}
+use native.Mathlib.Nat.{mod-eq-of-lt}
 use native.Mathlib.Omega.{arith}
-use lib.ListN.{length, length-set}
+use lib.IntN.{ℤ, pos, negsuc, natAbs}
+use lib.ListN.{length}
+use lib.Signed.{ltZ, natAbs-le}
 use mir.Syntax.{w32}
 use mir.Val.{SFits}
-use mir.Facts.{toZ-ofZ}
+use mir.Facts.{toZ-ofZ, ofZ-toZ, sfits-toZ, fits-of-lt}
 use borrow.Author.Needs.{needs}
+use borrow.Author.Tests.{ltb-true}
 use Rattle.fixed.specs.declared.Fixed.{Fixed}
-use Rattle.fixed.specs.Integers.{bitsOf}
-use Rattle.fixed.specs.Fixed.{negF}
+use Rattle.fixed.specs.Integers.{lowBits, bitsOf, signed, wrap32}
+use Rattle.fixed.specs.Fixed.{absF}
+use Rattle.fixed.proofs.Bits.{whole-low}
 use Rattle.decimal.specs.Decimal.{sizeText, decimalText}
-use Rattle.decimal.proofs.Signs.{text-below, text-above}
-use Rattle.decimal.proofs.Putting.{put-same, put-first}
+use Rattle.decimal.proofs.Putting.{room-first, room-rest, put-both}
 use Rattle.decimal.proofs.put_decimal.Statement.{statement}
 use Rattle.decimal.proofs.put_decimal.Tie as tie
 
-module _ (s : tie.Start) where
-  fit : SFits w32 (s .args .x .bits)
-  fit = search needs
+-- 32 bits have the magnitude of a number, also where it is read as signed
+magnitude : (x : Fixed) → SFits w32 (x .bits) → bitsOf (absF x .bits) ≡ natAbs (x .bits)
+unfolding absF wrap32 signed lowBits
+magnitude x f =
+    let h : natAbs (x .bits) < 4294967296 = omega (arith, natAbs-le (x .bits) (f .sfits)) in
+    rw (mod-eq-of-lt h) (whole-low {w = w32} _ (sfits-toZ (fits-of-lt h)) ∙ ofZ-toZ {w = w32} (fits-of-lt h))
 
--- the text of a number below 0
-module _ (c : tie.Then1) where
+-- ---- the text by the sign
+text-below : (z : ℤ) {n : ℕ} → n ≡ natAbs z → ltZ z (pos 0) ≡ true → decimalText z ≡ (45 ∷ []) ++ sizeText n
+unfolding decimalText
+text-below (pos m) s e = absurd (omega (arith, ltb-true m 0 e))
+text-below (negsuc m) s e = ap (λ (n : ℕ). 45 ∷ sizeText n) (sym s)
+
+text-above : (z : ℤ) {n : ℕ} → n ≡ natAbs z → ltZ z (pos 0) ≡ false → decimalText z ≡ sizeText n
+unfolding decimalText
+text-above (pos m) s e = ap sizeText (sym s)
+text-above (negsuc m) s e = absurd (true≢false e)
+
+module _ (c : tie.After-bits-of) where
   abbrev begin : tie.Start
   begin = c .before .before .before .before
 
-  abbrev size : ℕ
-  size = bitsOf (negF (begin .args .x) .bits)
+  fit : SFits w32 (begin .args .x .bits)
+  fit = search needs
 
-  below : decimalText (begin .args .x .bits) ≡ 45 ∷ sizeText size
-  below = text-below (begin .args .x .bits) (fit begin) (rw (toZ-ofZ (fit begin)) at (c .if1 .taken))
-
-  room : begin .args .at + suc (length (sizeText size)) ≤ length (begin .args .out .now)
-  room = omega (arith, begin .pre, ap length below)
-
-module _ (c : tie.After-bits-of) where
-  abbrev minus : tie.Then1
-  minus = c .before .before .before .before
-
-  told : c .bits-of .result ≡ size minus
+  told : c .bits-of .result ≡ natAbs (begin .args .x .bits)
   told =
-      let n = c .before .before in
-      let f : SFits w32 (n .neg .result .bits) = search needs in
-      c .bits-of .ensures ∙ ap bitsOf (toZ-ofZ f) ∙ ap (λ (x : Fixed). bitsOf (x .bits)) (n .neg .ensures)
+      let a = c .before .before in
+      let f : SFits w32 (a .abs .result .bits) = search needs in
+      c .bits-of .ensures ∙ ap bitsOf (toZ-ofZ f) ∙ ap (λ (x : Fixed). bitsOf (x .bits)) (a .abs .ensures) ∙
+      magnitude _ fit
 
-slice-write-out : tie.Need-slice-write-out
-slice-write-out c = omega (arith, room c)
+-- a number below 0
+module _ (c : tie.Then1) where
+  abbrev below : tie.After-bits-of
+  below = c .before .before .before
 
-add-put-size : tie.Need-add-put-size
-add-put-size c = search needs
+  minus : decimalText (begin below .args .x .bits) ≡ (45 ∷ []) ++ sizeText (below .bits-of .result)
+  minus = text-below _ (told below) (rw (toZ-ofZ (fit below)) at (c .if1 .taken))
 
-neg-requires : tie.Need-neg-requires
-neg-requires c κs = search needs
+  room : begin below .args .at + length ((45 ∷ []) ++ sizeText (below .bits-of .result)) ≤
+      length (begin below .args .out .now)
+  room = rw minus at (begin below .pre)
 
-bits-of-requires : tie.Need-bits-of-requires
-bits-of-requires c κs = search needs
+put-text-requires : tie.Need-put-text-requires
+put-text-requires c κs =
+    let e = c .before .before in
+    room-first _ _ (45 ∷ []) (sizeText (below e .bits-of .result)) (room e)
 
 put-size-requires : tie.Need-put-size-requires
-put-size-requires c κs = simp length-set (omega (arith, room (minus c), ap (λ (n : ℕ). length (sizeText n)) (told c)))
-
-same-length : tie.Need-same-length
-same-length c = simp length-set at (c .before .before .put-size .kept .0)
+put-size-requires c κs =
+    let p = c .before .before .before in
+    let e = p .before .before .before in
+    room-rest _ _ (45 ∷ []) (sizeText (below e .bits-of .result)) (room e) (p .put-text .ensures)
 
 returns : tie.Need-returns
 returns c =
+    let q = c .before .before in
+    let p = q .before .before .before .before in
+    let e = p .before .before .before in
+    rw (minus e)
+    (put-both _ _ (45 ∷ []) (sizeText (below e .bits-of .result)) (room e) (p .put-text .ensures) (q .put-size .ensures))
+
+-- any other number
+plain : (c : tie.Else1) → let b = c .before .before .before in
+    decimalText (begin b .args .x .bits) ≡ sizeText (b .bits-of .result)
+plain c =
     let b = c .before .before .before in
-    let m = minus b in
-    let a = begin m .args in
-    put-same _ _ (below m ∙ ap (λ (n : ℕ). 45 ∷ sizeText n) (sym (told b))) refl refl
-    (put-first (a .out .now) (a .at) 45 (sizeText (b .bits-of .result)) (omega (arith, room m))
-    (c .before .before .put-size .ensures))
-
-bits-of-requires-2 : tie.Need-bits-of-requires-2
-bits-of-requires-2 c κs = search needs
-
--- the text of any other number
-module _ (c : tie.After-bits-of2) where
-  abbrev plain : tie.Start
-  plain = c .before .before .before .before .before .before .before
-
-  above : decimalText (plain .args .x .bits) ≡ sizeText (c .bits-of2 .result)
-  above =
-      text-above (plain .args .x .bits) (fit plain) (rw (toZ-ofZ (fit plain)) at (c .before .before .before .if1 .left)) ∙
-      ap sizeText (sym (c .bits-of2 .ensures ∙ ap bitsOf (toZ-ofZ (fit plain))))
+    text-above _ (told b) (rw (toZ-ofZ (fit b)) at (c .if1 .left))
 
 put-size-requires-2 : tie.Need-put-size-requires-2
-put-size-requires-2 c κs = omega (arith, plain c .pre, ap length (above c))
-
-same-length-2 : tie.Need-same-length-2
-same-length-2 c = search needs
+put-size-requires-2 c κs = rw (plain (c .before)) at (begin (c .before .before .before .before) .pre)
 
 returns-2 : tie.Need-returns-2
-returns-2 c = put-same _ _ (above (c .before .before .before)) refl refl (c .before .before .put-size2 .ensures)
+returns-2 c =
+    let q = c .before .before in
+    rw (plain (q .before .before)) (q .put-size2 .ensures)
 
 pub put-decimal-spec : {M : Type 1} → statement M
 put-decimal-spec =
     tie.close
-    (tie.spec
-    slice-write-out
-    add-put-size
-    neg-requires
-    bits-of-requires
-    put-size-requires
-    same-length
-    returns
-    bits-of-requires-2
-    put-size-requires-2
-    same-length-2
-    returns-2)
+    (tie.spec (λ c κs. search needs) (λ c κs. search needs) (λ c. search needs) put-text-requires put-size-requires
+    (λ c. search needs) returns put-size-requires-2 (λ c. search needs) returns-2)
