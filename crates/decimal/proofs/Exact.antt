@@ -9,7 +9,7 @@ use native.Mathlib.Omega.{arith}
 use lib.Dec.{ltb, eqb}
 use borrow.Author.Tests.{ltb-true, eqb-true}
 use Rattle.decimal.specs.Decimal.{digitsBy, numberText, fractionBy, readOn, readBehind}
-use Rattle.decimal.proofs.Digits.{last, tenth}
+use Rattle.decimal.proofs.Digits.{last}
 
 -- ---- whole numbers
 -- a digit behind others
@@ -22,11 +22,8 @@ digits-exact : (f n : ℕ) → n < 10 ^ f → readOn 0 (digitsBy f n) ≡ n
 unfolding readOn digitsBy
 digits-exact zero n h = omega arith
 digits-exact (suc f) n h =
-    omega (
-      arith,
-      read-last 0 (cond (ltb n 10) [] (digitsBy f (n / 10))) n,
-      by (ltb n 10) refl (digits-exact f (n / 10) (tenth f n h)),
-    )
+    let ds = cond (ltb n 10) [] (digitsBy f (n / 10)) in
+    omega (arith, read-last 0 ds n, by (ltb n 10) refl (digits-exact f (n / 10) (omega arith)))
   where
     by : (b : Bool) → ltb n 10 ≡ b → readOn 0 (digitsBy f (n / 10)) ≡ n / 10 →
         readOn 0 (cond b [] (digitsBy f (n / 10))) ≡ n / 10

@@ -6,7 +6,7 @@ use native.Mathlib.Omega.{arith}
 use lib.ListN.{length, drop, length-append}
 use Rattle.words.specs.Bytes.{over, placed}
 use Rattle.words.proofs.Placing.{placed-start, placed-none, placed-length, placed-behind}
-use Rattle.decimal.specs.Decimal.{Put}
+use Rattle.decimal.specs.Decimal.{Put, PutInRoom}
 
 module _ (b : List ℕ) (at : ℕ) where
   pub put-none : Put [] at b at b
@@ -44,6 +44,11 @@ module _ (b : List ℕ) (at : ℕ) (xs ys : List ℕ) (h : at + length (xs ++ ys
   pub put-both : {mid end : ℕ} {among left : List ℕ} → Put xs at b mid among → Put ys mid among end left →
       Put (xs ++ ys) at b end left
   put-both p q = put-behind b at xs (room-first at (length b) xs ys h) p ys q
+
+pub in-room-both : (b : List ℕ) (at : ℕ) (xs ys : List ℕ) {mid end : ℕ} {among left : List ℕ} →
+    PutInRoom xs at b mid among → PutInRoom ys mid among end left → PutInRoom (xs ++ ys) at b end left
+in-room-both b at xs ys p q h =
+    let f = p (room-first at (length b) xs ys h) in put-both b at xs ys h f (q (room-rest b at xs ys h f))
 
 -- what is put at the start ends within what is left
 pub put-within : {xs b left : List ℕ} {end : ℕ} → Put xs 0 b end left → end ≤ length left

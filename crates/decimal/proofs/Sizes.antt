@@ -6,10 +6,11 @@ use native.Mathlib.Omega.{arith}
 use lib.Dec.{ltb, eqb}
 use lib.IntN.{ℤ, pos, negsuc}
 use lib.ListN.{length, length-append}
+use borrow.Author.Tests.{lt-ltb}
 use mir.Syntax.{w32}
 use mir.Val.{SFits}
 use Rattle.decimal.specs.Decimal.{digitsBy, numberText, fractionBy, sizeText, decimalText}
-use Rattle.decimal.proofs.Digits.{last, tenth, digits-one}
+use Rattle.decimal.proofs.Digits.{last}
 
 -- none or some are no more than those
 some-room : (b : Bool) (xs : List ℕ) → length (cond b [] xs) ≤ length xs
@@ -20,15 +21,11 @@ some-room false xs = omega arith
 pub digits-room : (f g n : ℕ) → n < 10 ^ suc g → length (digitsBy f n) ≤ suc g
 unfolding digitsBy
 digits-room zero g n h = omega arith
-digits-room (suc f) zero n h = rw (digits-one f n (omega arith)) (omega arith)
+digits-room (suc f) zero n h = rw (lt-ltb n 10 (omega arith)) (omega arith)
 digits-room (suc f) (suc g) n h =
     let ds = digitsBy f (n / 10) in
-    omega (
-      arith,
-      length-append (cond (ltb n 10) [] ds) (last n),
-      some-room (ltb n 10) ds,
-      digits-room f g (n / 10) (tenth (suc g) n h),
-    )
+    let l = length-append (cond (ltb n 10) [] ds) (last n) in
+    omega (arith, l, some-room (ltb n 10) ds, digits-room f g (n / 10) (omega arith))
 
 pub number-room : (n : ℕ) → n < 4294967296 → length (numberText n) ≤ 10
 number-room n h = digits-room 10 9 n (omega arith)
@@ -45,13 +42,8 @@ unfolding sizeText
 size-room n h =
     let b = eqb (n % 65536) 0 in
     let ds : List ℕ = 46 ∷ fractionBy 16 (n % 65536) in
-    omega (
-      arith,
-      length-append (numberText (n / 65536)) (cond b [] ds),
-      some-room b ds,
-      fraction-room 16 (n % 65536),
-      digits-room 10 4 (n / 65536) (omega arith),
-    )
+    let l = length-append (numberText (n / 65536)) (cond b [] ds) in
+    omega (arith, l, some-room b ds, fraction-room 16 (n % 65536), digits-room 10 4 (n / 65536) (omega arith))
 
 pub decimal-room : (z : ℤ) → SFits w32 z → length (decimalText z) ≤ 23
 unfolding decimalText

@@ -17,7 +17,8 @@ part : (b : List ℕ) (at : ℕ) (xs left : List ℕ) (k : ℕ) → k ≡ length
 unfolding over placed
 part b at xs left k e h =
     let m = take k (drop at b) in
-    let d : drop (length xs) m ≡ [] = drop-of-length-le m {i = length xs} (omega (arith, e, length-take k (drop at b))) in
+    let d : drop (length xs) m ≡ [] =
+    drop-of-length-le m {i = length xs} (omega (arith, length-take k (drop at b))) in
     rw (h ∙ ap (λ (r : List ℕ). xs ++ r) d ∙ append-nil xs, drop-drop k at b, e)
 
 returns : tie.Need-returns
