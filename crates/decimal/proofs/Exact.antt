@@ -9,11 +9,10 @@ use native.Mathlib.Omega.{arith}
 use lib.Dec.{ltb, eqb}
 use borrow.Author.Tests.{ltb-true, eqb-true}
 use Rattle.decimal.specs.Decimal.{digitsBy, numberText, fractionBy, readOn, readBehind}
-use Rattle.decimal.proofs.Digits.{last}
 
 -- ---- whole numbers
 -- a digit behind others
-read-last : (m : ℕ) (ds : List ℕ) (n : ℕ) → readOn m (ds ++ last n) ≡ 10 * readOn m ds + n % 10
+read-last : (m : ℕ) (ds : List ℕ) (n : ℕ) → readOn m (ds ++ (48 + n % 10) ∷ []) ≡ 10 * readOn m ds + n % 10
 unfolding readOn
 read-last m [] n = omega arith
 read-last m (d ∷ ds) n = read-last (10 * m + (d - 48)) ds n

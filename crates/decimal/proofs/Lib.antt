@@ -1,4 +1,3 @@
-pub mod Digits
 pub mod Sizes
 pub mod Exact
 pub mod Putting

@@ -15,10 +15,7 @@ module _ (b : List ℕ) (at : ℕ) where
   -- the same by other names
   pub put-same : {xs ys : List ℕ} {end end′ : ℕ} {left left′ : List ℕ} → ys ≡ xs → end′ ≡ end → left′ ≡ left →
       Put xs at b end left → Put ys at b end′ left′
-  put-same e f g p = record {
-    ends = f ∙ p .ends ∙ ap (λ (l : List ℕ). at + length l) (sym e);
-    memory = g ∙ p .memory ∙ ap (placed b at) (sym e);
-  }
+  put-same e f g p = rw (e, f, g) p
 
   module _ (xs : List ℕ) (h : at + length xs ≤ length b) {end : ℕ} {left : List ℕ} (p : Put xs at b end left) where
     pub put-length : length left ≡ length b
@@ -27,10 +24,9 @@ module _ (b : List ℕ) (at : ℕ) where
     -- one text behind another
     pub put-behind : (ys : List ℕ) {end′ : ℕ} {left′ : List ℕ} → Put ys end left end′ left′ →
         Put (xs ++ ys) at b end′ left′
-    put-behind ys {end′} {left′} q = record {
-      ends = omega (arith, p .ends, q .ends, length-append xs ys);
-      memory =
-          q .memory ∙ ap (λ (l : List ℕ). placed l end ys) (p .memory) ∙ placed-behind b at xs h ys end (p .ends);
+    put-behind ys q = record {
+      ends = omega (arith, length-append xs ys);
+      memory = rw (q .memory, p .memory) (placed-behind b at xs h ys end (p .ends));
     }
 
 -- ---- the room of two texts is that of the first and, behind it, that of the second
@@ -45,9 +41,9 @@ module _ (b : List ℕ) (at : ℕ) (xs ys : List ℕ) (h : at + length (xs ++ ys
       Put (xs ++ ys) at b end left
   put-both p q = put-behind b at xs (room-first at (length b) xs ys h) p ys q
 
-pub in-room-both : (b : List ℕ) (at : ℕ) (xs ys : List ℕ) {mid end : ℕ} {among left : List ℕ} →
+pub in-room-both : {xs ys b among left : List ℕ} {at mid end : ℕ} →
     PutInRoom xs at b mid among → PutInRoom ys mid among end left → PutInRoom (xs ++ ys) at b end left
-in-room-both b at xs ys p q h =
+in-room-both {xs} {ys} {b} {among} {left} {at} p q h =
     let f = p (room-first at (length b) xs ys h) in put-both b at xs ys h f (q (room-rest b at xs ys h f))
 
 -- what is put at the start ends within what is left

@@ -10,7 +10,6 @@ use borrow.Author.Tests.{lt-ltb}
 use mir.Syntax.{w32}
 use mir.Val.{SFits}
 use Rattle.decimal.specs.Decimal.{digitsBy, numberText, fractionBy, sizeText, decimalText}
-use Rattle.decimal.proofs.Digits.{last}
 
 -- none or some are no more than those
 some-room : (b : Bool) (xs : List ℕ) → length (cond b [] xs) ≤ length xs
@@ -24,7 +23,7 @@ digits-room zero g n h = omega arith
 digits-room (suc f) zero n h = rw (lt-ltb n 10 (omega arith)) (omega arith)
 digits-room (suc f) (suc g) n h =
     let ds = digitsBy f (n / 10) in
-    let l = length-append (cond (ltb n 10) [] ds) (last n) in
+    let l = length-append (cond (ltb n 10) [] ds) ((48 + n % 10) ∷ []) in
     omega (arith, l, some-room (ltb n 10) ds, digits-room f g (n / 10) (omega arith))
 
 pub number-room : (n : ℕ) → n < 4294967296 → length (numberText n) ≤ 10

@@ -1,7 +1,7 @@
 -- `put_fraction` puts the first digit of a fraction and calls itself for the rest. Assumes nothing.
 use mathlib.Core.Path.{_≡_, refl}
 use mathlib.Core.Bool.{cond}
-use mathlib.Core.List.{List, [], _∷_, _++_}
+use mathlib.Core.List.{[], _∷_}
 use Prim.Native.Nat.{ℕ, zero, suc, _+_, _-_, _*_, _/_, _%_, _<_}
 use native.Mathlib.Omega.{arith}
 use lib.Dec.{eqb}
@@ -18,14 +18,9 @@ use Rattle.decimal.proofs.+put_fraction.Lts-put_fraction as lts
 use Rattle.decimal.proofs.+put_fraction.{statement}
 use Rattle.decimal.proofs.+put_fraction.Tie.{close}
 
--- the first digit and those behind it
-abbrev first : ℕ → List ℕ
-first n = (48 + n * 10 / 65536) ∷ []
-
-abbrev others : ℕ → ℕ → List ℕ
-others f n = fractionBy (f - 1) (n * 10 % 65536)
-
-split : (f n : ℕ) → (f ≡ 0 → ⊥) → fractionBy f n ≡ cond (eqb n 0) [] (first n ++ others f n)
+-- the first digit stands before those of the rest
+split : (f n : ℕ) → (f ≡ 0 → ⊥) → fractionBy f n ≡
+    cond (eqb n 0) [] ((48 + n * 10 / 65536) ∷ fractionBy (f - 1) (n * 10 % 65536))
 unfolding fractionBy
 split zero n g = absurd (g refl)
 split (suc f) n g =
@@ -53,9 +48,8 @@ returns-3 t c =
     let q = c .before .before in
     let p = q .before .before .before .before in
     let e = p .before .before in
-    let a = e .before .before .before .args in
-    rw (split (a .left) (a .n) (e .before .if1 .left), ne-eqb (a .n) 0 (e .if2 .left))
-    (in-room-both _ _ (first (a .n)) (others (a .left) (a .n)) (p .put-byte .ensures) (q .put-fraction .ensures))
+    rw (split _ _ (e .before .if1 .left), ne-eqb _ 0 (e .if2 .left))
+    (in-room-both (p .put-byte .ensures) (q .put-fraction .ensures))
 
 pub +put-fraction-spec : {M : Type 1} → statement M
 +put-fraction-spec = close μ λ t.

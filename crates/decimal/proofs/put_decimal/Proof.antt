@@ -51,7 +51,7 @@ returns c =
     let m = text-below _ (b .bits-of .result) n (fit b) (told b) (rw (toZ-ofZ (fit b)) at (e .if1 .taken))
     (omega (arith, w .wrapping-sub-u32 .ok)) (w .wrapping-sub-u32 .ensures) in
     rw m
-    (in-room-both _ _ (45 ∷ []) (sizeText n) (p .put-byte .ensures) (q .put-size .ensures) (rw m at (begin b .pre)))
+    (in-room-both (p .put-byte .ensures) (q .put-size .ensures) (rw m at (begin b .pre)))
 
 returns-2 : tie.Need-returns-2
 returns-2 c =

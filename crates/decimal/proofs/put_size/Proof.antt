@@ -1,9 +1,8 @@
 -- `put_size` puts the whole part and, if there is a rest, a point and its digits. Assumes nothing.
-use mathlib.Core.List.{[], _∷_, append-nil}
-use Prim.Native.Nat.{_/_, _%_}
+use mathlib.Core.List.{append-nil}
 use borrow.Author.Needs.{needs}
 use borrow.Author.Tests.{eq-eqb, ne-eqb}
-use Rattle.decimal.specs.Decimal.{numberText, fractionBy, sizeText}
+use Rattle.decimal.specs.Decimal.{sizeText}
 use Rattle.decimal.proofs.Putting.{in-room-both}
 use Rattle.decimal.proofs.put_size.Statement.{statement}
 use Rattle.decimal.proofs.put_size.Tie as tie
@@ -19,11 +18,8 @@ returns-2 c =
     let p = f .before .before .before .before in
     let e = p .before .before in
     let d = e .before .before .before in
-    let n = d .before .before .before .args .n in
-    let ds = fractionBy 16 (n % 65536) in
     rw (ne-eqb _ 0 (e .if1 .left))
-    (in-room-both _ _ (numberText (n / 65536)) (46 ∷ ds) (d .put-digits .ensures)
-    (in-room-both _ _ (46 ∷ []) ds (p .put-byte .ensures) (f .put-fraction .ensures)))
+    (in-room-both (d .put-digits .ensures) (in-room-both (p .put-byte .ensures) (f .put-fraction .ensures)))
 
 pub put-size-spec : {M : Type 1} → statement M
 put-size-spec =

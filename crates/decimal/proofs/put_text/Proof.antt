@@ -1,6 +1,6 @@
 -- `put_text` copies a text into the part that has its length. Assumes nothing.
-use mathlib.Core.Path.{_≡_, refl, ap, _∙_}
-use mathlib.Core.List.{List, [], _++_, append-nil}
+use mathlib.Core.Path.{_≡_, refl}
+use mathlib.Core.List.{List, append-nil}
 use Prim.Native.Nat.{ℕ, _+_, _-_}
 use native.Mathlib.Omega.{arith}
 use lib.ListN.{length, take, drop, drop-of-length-le, length-take}
@@ -12,24 +12,19 @@ use Rattle.decimal.proofs.put_text.Statement.{statement}
 use Rattle.decimal.proofs.put_text.Tie as tie
 
 -- a text at a part that has its length
-part : (b : List ℕ) (at : ℕ) (xs left : List ℕ) (k : ℕ) → k ≡ length xs → left ≡ over xs (midOf at k b) →
-    putMid at k b left ≡ placed b at xs
+part : (b : List ℕ) (at : ℕ) (xs : List ℕ) (k : ℕ) → k ≡ length xs →
+    putMid at k b (over xs (midOf at k b)) ≡ placed b at xs
 unfolding over placed
-part b at xs left k e h =
-    let m = take k (drop at b) in
-    let d : drop (length xs) m ≡ [] =
-    drop-of-length-le m {i = length xs} (omega (arith, length-take k (drop at b))) in
-    rw (h ∙ ap (λ (r : List ℕ). xs ++ r) d ∙ append-nil xs, drop-drop k at b, e)
+part b at xs k e =
+    let d = drop-of-length-le (take k (drop at b)) {i = length xs} (omega (arith, length-take k (drop at b))) in
+    rw (d, append-nil xs, drop-drop k at b, e)
 
 returns : tie.Need-returns
 returns c =
     let p = c .before .before .copy-bytes in
-    let b = c .before .before .before .before .before .before .args in
-    let n = length (b .text .now) in
-    record {
-      ends = refl;
-      memory = part (b .out .now) (b .at) (b .text .now) (p .last .1 .0) (b .at + n - b .at) (omega arith) (p .ensures);
-    }
+    let a = c .before .before .before .before .before .before .args in
+    let k : a .at + length (a .text .now) - a .at ≡ length (a .text .now) = omega arith in
+    record { ends = refl; memory = rw (p .ensures) (part (a .out .now) (a .at) (a .text .now) _ k) }
 
 pub put-text-spec : {M : Type 1} → statement M
 put-text-spec =
