@@ -4,7 +4,7 @@ use mathlib.Core.List.{List, [], _++_}
 use Prim.Native.Nat.{ℕ, _+_, _≤_}
 use native.Mathlib.Omega.{arith}
 use lib.ListN.{length, drop, length-append}
-use Rattle.words.specs.Bytes.{over, placed}
+use Rattle.words.specs.Bytes.{over}
 use Rattle.words.proofs.Placing.{placed-start, placed-none, placed-length, placed-behind}
 use Rattle.decimal.specs.Decimal.{Put, PutInRoom}
 
@@ -41,6 +41,7 @@ module _ (b : List ℕ) (at : ℕ) (xs ys : List ℕ) (h : at + length (xs ++ ys
       Put (xs ++ ys) at b end left
   put-both p q = put-behind b at xs (room-first at (length b) xs ys h) p ys q
 
+-- so of two that are put where there is room
 pub in-room-both : {xs ys b among left : List ℕ} {at mid end : ℕ} →
     PutInRoom xs at b mid among → PutInRoom ys mid among end left → PutInRoom (xs ++ ys) at b end left
 in-room-both {xs} {ys} {b} {among} {left} {at} p q h =

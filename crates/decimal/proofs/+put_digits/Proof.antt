@@ -23,10 +23,6 @@ use Rattle.decimal.proofs.+put_digits.Tie.{close}
 abbrev last : ℕ → List ℕ
 last n = (48 + n % 10) ∷ []
 
-one : (f n : ℕ) → n < 10 → digitsBy (suc f) n ≡ last n
-unfolding digitsBy
-one f n h = rw (lt-ltb n 10 h)
-
 -- enough fuel is enough
 enough : (f n : ℕ) → n < 10 ^ suc f → digitsBy (suc (suc f)) n ≡ digitsBy (suc f) n
 unfolding digitsBy
@@ -47,9 +43,10 @@ abbrev calls : ℕ → lts.Claims
 calls t = (byte.Asked, byte.Learnt, and 1 ps (falls 1 ps _<_ μ t) digits.Pre, digits.Post)
 
 returns : (t : ℕ) → lts.Need-returns (calls t) (at t) digits.Post
+unfolding digitsBy
 returns t c =
     let p = c .before .before in
-    rw (one 9 _ (p .before .before .if1 .taken)) (p .put-byte .ensures)
+    rw (lt-ltb _ 10 (p .before .before .if1 .taken)) (p .put-byte .ensures)
 
 returns-2 : (t : ℕ) → lts.Need-returns-2 (calls t) (at t) digits.Post
 returns-2 t c =

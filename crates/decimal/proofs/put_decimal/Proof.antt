@@ -1,8 +1,8 @@
 -- `put_decimal` puts a minus before the magnitude of a number below 0, which 32 bits hold. Assumes
 -- nothing.
-use mathlib.Core.Path.{_≡_, sym, ap, _∙_}
+use mathlib.Core.Path.{_≡_, ap, _∙_}
 use mathlib.Core.Bool.{true, false, true≢false}
-use mathlib.Core.List.{[], _∷_, _++_}
+use mathlib.Core.List.{_∷_}
 use Prim.Native.Nat.{ℕ, _+_, _%_, _^_, _<_}
 use native.Mathlib.Omega.{arith}
 use lib.IntN.{ℤ, pos, negsuc}
@@ -19,8 +19,8 @@ use Rattle.decimal.proofs.put_decimal.Statement.{statement}
 use Rattle.decimal.proofs.put_decimal.Tie as tie
 
 -- ---- the text by the sign and the bits
-text-below : (z : ℤ) (b n : ℕ) → SFits w32 z → b ≡ bitsOf z → ltZ z (pos 0) ≡ true → n < 2 ^ 32 → (n + b) % 2 ^ 32 ≡ 0 →
-    decimalText z ≡ (45 ∷ []) ++ sizeText n
+text-below : (z : ℤ) (b n : ℕ) → SFits w32 z → b ≡ bitsOf z → ltZ z (pos 0) ≡ true → n < 2 ^ 32 →
+    (n + b) % 2 ^ 32 ≡ 0 → decimalText z ≡ 45 ∷ sizeText n
 unfolding decimalText lowBits
 text-below (pos m) b n f s e g h = absurd (omega (arith, ltb-true m 0 e))
 text-below (negsuc m) b n f s e g h = ap (λ (k : ℕ). 45 ∷ sizeText k) (omega (arith, f .sfits))
@@ -50,8 +50,7 @@ returns c =
     let n = w .wrapping-sub-u32 .result in
     let m = text-below _ (b .bits-of .result) n (fit b) (told b) (rw (toZ-ofZ (fit b)) at (e .if1 .taken))
     (omega (arith, w .wrapping-sub-u32 .ok)) (w .wrapping-sub-u32 .ensures) in
-    rw m
-    (in-room-both (p .put-byte .ensures) (q .put-size .ensures) (rw m at (begin b .pre)))
+    rw m (in-room-both (p .put-byte .ensures) (q .put-size .ensures) (rw m at (begin b .pre)))
 
 returns-2 : tie.Need-returns-2
 returns-2 c =
