@@ -23,9 +23,7 @@ split : (f n : ℕ) → (f ≡ 0 → ⊥) → fractionBy f n ≡
     cond (eqb n 0) [] ((48 + n * 10 / 65536) ∷ fractionBy (f - 1) (n * 10 % 65536))
 unfolding fractionBy
 split zero n g = absurd (g refl)
-split (suc f) n g =
-    let d : suc f - 1 ≡ f = omega arith in
-    rw d
+split (suc f) n g = let d : suc f - 1 ≡ f = omega arith in rw d
 
 abbrev μ : Measures 1 ps ℕ
 μ κs a = a .1 .1 .1 .0

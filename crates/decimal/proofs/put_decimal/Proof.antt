@@ -31,13 +31,10 @@ text-above (pos m) b f s e = ap sizeText (omega (arith, f .sfits))
 text-above (negsuc m) b f s e = absurd (true≢false e)
 
 module _ (c : tie.After-bits-of) where
-  abbrev begin : tie.Start
-  begin = c .before .before .before
-
-  fit : SFits w32 (begin .args .x .bits)
+  fit : SFits w32 (c .before .before .before .args .x .bits)
   fit = search needs
 
-  told : c .bits-of .result ≡ bitsOf (begin .args .x .bits)
+  told : c .bits-of .result ≡ bitsOf (c .before .before .before .args .x .bits)
   told = c .bits-of .ensures ∙ ap bitsOf (toZ-ofZ fit)
 
 returns : tie.Need-returns
@@ -50,7 +47,7 @@ returns c =
     let n = w .wrapping-sub-u32 .result in
     let m = text-below _ (b .bits-of .result) n (fit b) (told b) (rw (toZ-ofZ (fit b)) at (e .if1 .taken))
     (omega (arith, w .wrapping-sub-u32 .ok)) (w .wrapping-sub-u32 .ensures) in
-    rw m (in-room-both (p .put-byte .ensures) (q .put-size .ensures) (rw m at (begin b .pre)))
+    rw m (in-room-both (p .put-byte .ensures) (q .put-size .ensures) (rw m at (b .before .before .before .pre)))
 
 returns-2 : tie.Need-returns-2
 returns-2 c =
@@ -58,7 +55,7 @@ returns-2 c =
     let e = q .before .before in
     let b = e .before .before .before in
     let m = text-above _ (b .bits-of .result) (fit b) (told b) (rw (toZ-ofZ (fit b)) at (e .if1 .left)) in
-    rw m (q .put-size2 .ensures (rw m at (begin b .pre)))
+    rw m (q .put-size2 .ensures (rw m at (b .before .before .before .pre)))
 
 pub put-decimal-spec : {M : Type 1} → statement M
 put-decimal-spec =
