@@ -1,15 +1,12 @@
--- Laws of texts put at a place: none, one byte by a store, one behind another; and no byte is lost.
--- Assumes nothing.
+-- Laws of texts put at a place: none, one behind another; and no byte is lost. Assumes nothing.
 use mathlib.Core.Path.{_≡_, sym, ap, _∙_}
-use mathlib.Core.List.{List, [], _∷_, _++_, append-nil}
-use Prim.Native.Nat.{ℕ, _+_, _≤_, _<_}
+use mathlib.Core.List.{List, [], _++_}
+use Prim.Native.Nat.{ℕ, _+_, _≤_}
 use native.Mathlib.Omega.{arith}
-use lib.ListN.{length, take, drop, set, length-append, drop-of-length-le, length-take}
-use lib.Seq.{drop-drop}
-use borrow.Rule.Slice.PartMut.{midOf, putMid}
-use Rattle.words.specs.Bytes.{over, placed}
-use Rattle.words.proofs.Placing.{placed-start, placed-none, placed-length, placed-store, placed-behind}
-use Rattle.decimal.specs.Decimal.{Put}
+use lib.ListN.{length, drop, length-append}
+use Rattle.words.specs.Bytes.{over}
+use Rattle.words.proofs.Placing.{placed-start, placed-none, placed-length, placed-behind}
+use Rattle.decimal.specs.Decimal.{Put, PutInRoom}
 
 module _ (b : List ℕ) (at : ℕ) where
   pub put-none : Put [] at b at b
@@ -18,28 +15,7 @@ module _ (b : List ℕ) (at : ℕ) where
   -- the same by other names
   pub put-same : {xs ys : List ℕ} {end end′ : ℕ} {left left′ : List ℕ} → ys ≡ xs → end′ ≡ end → left′ ≡ left →
       Put xs at b end left → Put ys at b end′ left′
-  put-same e f g p = record {
-    ends = f ∙ p .ends ∙ ap (λ (l : List ℕ). at + length l) (sym e);
-    memory = g ∙ p .memory ∙ ap (placed b at) (sym e);
-  }
-
-  -- the first byte by a store
-  pub put-first : (x : ℕ) (xs : List ℕ) {end : ℕ} {left : List ℕ} → at < length b →
-      Put xs (at + 1) (set b at x) end left → Put (x ∷ xs) at b end left
-  put-first x xs h p = record { ends = omega (arith, p .ends); memory = p .memory ∙ placed-store b at x xs h }
-
-  pub put-byte : (x : ℕ) → at < length b → Put (x ∷ []) at b (at + 1) (set b at x)
-  put-byte x h = put-first x [] h record { ends = omega arith; memory = sym (placed-none (set b at x) (at + 1)) }
-
-  -- a text at a part that has its length
-  pub put-part : (xs left : List ℕ) (k : ℕ) → k ≡ length xs → left ≡ over xs (midOf at k b) →
-      putMid at k b left ≡ placed b at xs
-  unfolding over placed
-  put-part xs left k e h =
-      let n : length (take k (drop at b)) ≤ length xs = omega (arith, e, length-take k (drop at b)) in
-      let d : drop (length xs) (take k (drop at b)) ≡ [] = drop-of-length-le (take k (drop at b)) n in
-      let f : left ≡ xs = h ∙ ap (λ (r : List ℕ). xs ++ r) d ∙ append-nil xs in
-      rw (f, drop-drop k at b, e)
+  put-same e f g p = rw (e, f, g) p
 
   module _ (xs : List ℕ) (h : at + length xs ≤ length b) {end : ℕ} {left : List ℕ} (p : Put xs at b end left) where
     pub put-length : length left ≡ length b
@@ -48,10 +24,9 @@ module _ (b : List ℕ) (at : ℕ) where
     -- one text behind another
     pub put-behind : (ys : List ℕ) {end′ : ℕ} {left′ : List ℕ} → Put ys end left end′ left′ →
         Put (xs ++ ys) at b end′ left′
-    put-behind ys {end′} {left′} q = record {
-      ends = omega (arith, p .ends, q .ends, length-append xs ys);
-      memory =
-          q .memory ∙ ap (λ (l : List ℕ). placed l end ys) (p .memory) ∙ placed-behind b at xs h ys end (p .ends);
+    put-behind ys q = record {
+      ends = omega (arith, length-append xs ys);
+      memory = rw (q .memory, p .memory) (placed-behind b at xs h ys end (p .ends));
     }
 
 -- ---- the room of two texts is that of the first and, behind it, that of the second
@@ -65,6 +40,12 @@ module _ (b : List ℕ) (at : ℕ) (xs ys : List ℕ) (h : at + length (xs ++ ys
   pub put-both : {mid end : ℕ} {among left : List ℕ} → Put xs at b mid among → Put ys mid among end left →
       Put (xs ++ ys) at b end left
   put-both p q = put-behind b at xs (room-first at (length b) xs ys h) p ys q
+
+-- so of two that are put where there is room
+pub in-room-both : {xs ys b among left : List ℕ} {at mid end : ℕ} →
+    PutInRoom xs at b mid among → PutInRoom ys mid among end left → PutInRoom (xs ++ ys) at b end left
+in-room-both {xs} {ys} {b} {among} {left} {at} p q h =
+    let f = p (room-first at (length b) xs ys h) in put-both b at xs ys h f (q (room-rest b at xs ys h f))
 
 -- what is put at the start ends within what is left
 pub put-within : {xs b left : List ℕ} {end : ℕ} → Put xs 0 b end left → end ≤ length left

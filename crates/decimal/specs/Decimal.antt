@@ -2,7 +2,7 @@
 use mathlib.Core.Path.{_≡_}
 use mathlib.Core.Bool.{cond}
 use mathlib.Core.List.{List, [], _∷_, _++_}
-use Prim.Native.Nat.{ℕ, zero, suc, _+_, _-_, _*_, _/_, _%_, _^_}
+use Prim.Native.Nat.{ℕ, zero, suc, _+_, _-_, _*_, _/_, _%_, _^_, _≤_}
 use lib.Dec.{ltb, eqb}
 use lib.IntN.{ℤ, pos, negsuc}
 use lib.ListN.{length}
@@ -12,6 +12,10 @@ use Rattle.words.specs.Bytes.{placed}
 pub record Put (text : List ℕ) (at : ℕ) (bytes : List ℕ) (end : ℕ) (left : List ℕ) : Type 0 where
   pub ends : end ≡ at + length text
   pub memory : left ≡ placed bytes at text
+
+-- the same if there is room
+abbrev pub PutInRoom : List ℕ → ℕ → List ℕ → ℕ → List ℕ → Type 0
+PutInRoom text at bytes end left = at + length text ≤ length bytes → Put text at bytes end left
 
 -- the last f digits of a number at most, the highest first, without zeros in front
 unfoldable pub digitsBy : ℕ → ℕ → List ℕ
