@@ -9,7 +9,7 @@ use Rattle.decimal.proofs.put_decimal.Reads as decimal
 use Rattle.decimal.proofs.put_number.Reads as number
 use Rattle.decimal.proofs.put_text.Reads as text
 
-put-unique : {xs b l l′ : List ℕ} {at r r′ : ℕ} → Put xs at b r l → Put xs at b r′ l′ → (r ≡ r′) × (l ≡ l′)
+pub put-unique : {xs b l l′ : List ℕ} {at r r′ : ℕ} → Put xs at b r l → Put xs at b r′ l′ → (r ≡ r′) × (l ≡ l′)
 put-unique p q = (p .ends ∙ sym (q .ends), p .memory ∙ sym (q .memory))
 
 pub put-decimal-unique : (κs : _) (a : _) (r r′ : _) (x x′ : _) → decimal.Post κs a r x → decimal.Post κs a r′ x′ →
