@@ -1,5 +1,5 @@
 -- `spoonglacier_edges` hands on what `see_edges` gives. Assumes nothing.
-use mathlib.Core.Path.{_≡_, ap, _∙_}
+use mathlib.Core.Path.{ap, _∙_}
 use borrow.Author.Needs.{needs}
 use Rattle.listing.specs.declared.summary.Summary.{Summary}
 use Rattle.overlay.specs.Seen.{seenNumber, seenPlace, seenSummary}

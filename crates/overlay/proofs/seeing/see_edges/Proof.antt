@@ -1,17 +1,14 @@
 -- `see_edges` refuses a script by its first fault, and lists the map of one that has none. Assumes
 -- nothing.
-use mathlib.Core.Path.{_≡_, sym, ap, subst, _∙_}
-use mathlib.Core.Bool.{true, false}
-use mathlib.Core.List.{List}
-use Prim.Native.Nat.{ℕ}
+use mathlib.Core.Path.{_≡_, sym, ap, subst}
+use mathlib.Core.Bool.{false}
 use native.Mathlib.Omega.{arith}
-use lib.IntN.{ℤ}
 use borrow.Author.Needs.{needs}
 use Rattle.words.specs.declared.answer.Answer.{Answer}
 use Rattle.words.specs.Answers.{numberOf, firstOf, refuses}
 use Rattle.words.proofs.Answers.{not-refused}
 use Rattle.hintmap.specs.declared.map.HintMap.{HintMap}
-use Rattle.script.specs.Script.{checkRows, mapAt}
+use Rattle.script.specs.Script.{checkRows}
 use Rattle.script.proofs.Results.{refused, taken}
 use Rattle.listing.specs.Listing.{ListsWords}
 use Rattle.overlay.specs.declared.answer.SeenAnswer.{SeenAnswer}

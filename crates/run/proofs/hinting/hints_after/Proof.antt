@@ -7,7 +7,6 @@ use Prim.Native.Nat.{suc, _+_, _-_, _*_, _≤_}
 use native.Mathlib.Omega.{arith}
 use lib.ListN.{length, drop, length-drop}
 use borrow.Author.Needs.{needs}
-use borrow.Author.Tests.{not-false}
 use Rattle.hints.specs.declared.hints.Hints.{Hints}
 use Rattle.stems.specs.declared.mask.HintMask.{HintMask}
 use Rattle.hints.specs.Hints.{withMask, countered}
