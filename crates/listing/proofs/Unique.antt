@@ -15,6 +15,7 @@ use Rattle.listing.specs.declared.record.EdgeRecord.{EdgeRecord}
 use Rattle.listing.specs.declared.summary.Summary.{Summary}
 use Rattle.listing.specs.declared.answer.ListAnswer.{ListAnswer}
 use Rattle.listing.proofs.record.EdgeRecord.of.Reads as of-reads
+use Rattle.listing.proofs.summary.Summary.none.Reads as none-reads
 use Rattle.listing.proofs.summary.summarize.Reads as summarize-reads
 use Rattle.listing.proofs.answer.ListAnswer.code.Reads as code-reads
 use Rattle.listing.proofs.answer.ListAnswer.summary.Reads as summary-reads
@@ -27,6 +28,9 @@ module _ (κs : Lfts 0) where
   pub of-unique : (e : Hint) (r r′ : EdgeRecord) → of-reads.Post κs (e, tt) r (e, tt) →
       of-reads.Post κs (e, tt) r′ (e, tt) → r ≡ r′
   of-unique e r r′ p q = p ∙ sym q
+
+  pub none-unique : (r r′ : Summary) → none-reads.Post κs tt r tt → none-reads.Post κs tt r′ tt → r ≡ r′
+  none-unique r r′ p q = p ∙ sym q
 
   pub summarize-unique : (m : HintMap) (r r′ : Summary) → summarize-reads.Post κs (m, tt) r (m, tt) →
       summarize-reads.Post κs (m, tt) r′ (m, tt) → r ≡ r′
