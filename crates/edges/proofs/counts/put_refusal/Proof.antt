@@ -24,24 +24,9 @@ room : (c : tie.After-code) (p : ℕ) → p < 4294967296 →
     0 + length (part refusedText (c .code .result) ++ fromPlace p) ≤ length (start c .args .out .now)
 room c p h = omega (arith, start c .pre, refusal-room (c .code .result) p (small c) h)
 
-slice-aggregate-put-count : tie.Need-slice-aggregate-put-count
-slice-aggregate-put-count c = search needs
-
-code-requires : tie.Need-code-requires
-code-requires c κs = search needs
-
-cast-put-count : tie.Need-cast-put-count
-cast-put-count c = search needs
-
 put-count-requires : tie.Need-put-count-requires
 put-count-requires c κs =
     (small c, room-first _ _ (part refusedText (c .code .result)) (fromPlace 0) (room c 0 (omega arith)))
-
-slice-aggregate-put-count-2 : tie.Need-slice-aggregate-put-count-2
-slice-aggregate-put-count-2 c = search needs
-
-place-requires : tie.Need-place-requires
-place-requires c κs = search needs
 
 -- the place, and the room that is left for it
 module _ (c : tie.After-place) where
@@ -64,9 +49,6 @@ put-end-requires c κs =
     let d = c .before .before .before in
     room-rest _ _ (part placeText (place (d .before))) (endText false) (left (d .before)) (d .put-count2 .ensures)
 
-same-length : tie.Need-same-length
-same-length c = search needs
-
 returns : tie.Need-returns
 returns c =
     let e = c .before .before in
@@ -87,14 +69,5 @@ returns c =
 pub put-refusal-spec : {M : Type 1} → statement M
 put-refusal-spec =
     tie.close
-    (tie.spec
-    slice-aggregate-put-count
-    code-requires
-    cast-put-count
-    put-count-requires
-    slice-aggregate-put-count-2
-    place-requires
-    put-count-requires-2
-    put-end-requires
-    same-length
-    returns)
+    (tie.spec (λ c. search needs) (λ c κs. search needs) (λ c. search needs) put-count-requires (λ c. search needs)
+    (λ c κs. search needs) put-count-requires-2 put-end-requires (λ c. search needs) returns)

@@ -55,16 +55,10 @@ ghosts c =
 abbrev start4 : tie.After-put-count4 → tie.After-put-count3
 start4 c = c .before .before .before .before .before
 
-slice-aggregate-put-count : tie.Need-slice-aggregate-put-count
-slice-aggregate-put-count c = search needs
-
 put-count-requires : tie.Need-put-count-requires
 put-count-requires c κs =
     let s = c .before .before .before in
     (omega (arith, s .pre .0 .0), room-first _ _ (part edgesText (sum s .edges)) (fromPairs (sum s)) (room s))
-
-slice-aggregate-put-count-2 : tie.Need-slice-aggregate-put-count-2
-slice-aggregate-put-count-2 c = search needs
 
 put-count-requires-2 : tie.Need-put-count-requires-2
 put-count-requires-2 c κs =
@@ -72,18 +66,12 @@ put-count-requires-2 c κs =
     let s = sum (start d) in
     (omega (arith, start d .pre .0 .1 .0), room-first _ _ (part pairsText (s .pairs)) (fromGhosts s) (edges d))
 
-slice-aggregate-put-count-3 : tie.Need-slice-aggregate-put-count-3
-slice-aggregate-put-count-3 c = search needs
-
 put-count-requires-3 : tie.Need-put-count-requires-3
 put-count-requires-3 c κs =
     let d = c .before .before .before .before in
     let b = start (start2 d) in
     let s = sum b in
     (omega (arith, b .pre .0 .1 .1 .0), room-first _ _ (part ghostsText (s .ghosts)) (fromLocked s) (pairs d))
-
-slice-aggregate-put-count-4 : tie.Need-slice-aggregate-put-count-4
-slice-aggregate-put-count-4 c = search needs
 
 put-count-requires-4 : tie.Need-put-count-requires-4
 put-count-requires-4 c κs =
@@ -96,9 +84,6 @@ put-end-requires c κs =
     let d = c .before .before .before in
     let g = start4 d in
     room-rest _ _ (part lockedText (sum3 g .locked)) (endText false) (ghosts g) (d .put-count4 .ensures)
-
-same-length : tie.Need-same-length
-same-length c = search needs
 
 returns : tie.Need-returns
 returns c =
@@ -118,15 +103,5 @@ returns c =
 pub put-summary-spec : {M : Type 1} → statement M
 put-summary-spec =
     tie.close
-    (tie.spec
-    slice-aggregate-put-count
-    put-count-requires
-    slice-aggregate-put-count-2
-    put-count-requires-2
-    slice-aggregate-put-count-3
-    put-count-requires-3
-    slice-aggregate-put-count-4
-    put-count-requires-4
-    put-end-requires
-    same-length
-    returns)
+    (tie.spec (λ c. search needs) put-count-requires (λ c. search needs) put-count-requires-2 (λ c. search needs)
+    put-count-requires-3 (λ c. search needs) put-count-requires-4 put-end-requires (λ c. search needs) returns)

@@ -85,9 +85,6 @@ put-decimal-requires c κs =
     let s = c .before .before .before .before in
     room-first _ _ (decimalText (edge s .height .bits)) (behindUnits (edge s)) (room s)
 
-slice-aggregate-put-text : tie.Need-slice-aggregate-put-text
-slice-aggregate-put-text c = search needs
-
 put-text-requires : tie.Need-put-text-requires
 put-text-requires c κs =
     let d = c .before .before .before .before in
@@ -98,9 +95,6 @@ put-decimal-requires-2 c κs =
     let d = c .before .before .before in
     let r = edge (start (before-text d)) in
     room-first _ _ (decimalText (r .device .bits)) (behindPixels r) (middle d)
-
-slice-aggregate-put-text-2 : tie.Need-slice-aggregate-put-text-2
-slice-aggregate-put-text-2 c = search needs
 
 put-text-requires-2 : tie.Need-put-text-requires-2
 put-text-requires-2 c κs =
@@ -120,9 +114,6 @@ put-stem-requires c κs =
 
 put-end-requires : tie.Need-put-end-requires
 put-end-requires c κs = owned (c .before .before .before)
-
-same-length : tie.Need-same-length
-same-length c = search needs
 
 returns : tie.Need-returns
 returns c =
@@ -146,15 +137,5 @@ returns c =
 pub put-line-spec : {M : Type 1} → statement M
 put-line-spec =
     tie.close
-    (tie.spec
-    put-decimal-requires
-    slice-aggregate-put-text
-    put-text-requires
-    put-decimal-requires-2
-    slice-aggregate-put-text-2
-    put-text-requires-2
-    put-kind-requires
-    put-stem-requires
-    put-end-requires
-    same-length
-    returns)
+    (tie.spec put-decimal-requires (λ c. search needs) put-text-requires put-decimal-requires-2 (λ c. search needs)
+    put-text-requires-2 put-kind-requires put-stem-requires put-end-requires (λ c. search needs) returns)

@@ -31,24 +31,15 @@ room c =
     let n = c .before .before .args .stem in
     omega (arith, c .before .before .pre, ap length (some c), length-append ofStem (numberText n))
 
-slice-aggregate-put-text : tie.Need-slice-aggregate-put-text
-slice-aggregate-put-text c = search needs
-
 put-text-requires : tie.Need-put-text-requires
 put-text-requires c κs =
     let t = c .before .before in
     omega (arith, t .before .before .pre, ap length (none t))
 
-same-length : tie.Need-same-length
-same-length c = search needs
-
 returns : tie.Need-returns
 returns c =
     let t = c .before .before .before .before .before in
     put-same _ _ (none t) refl refl (c .before .before .put-text .ensures)
-
-slice-aggregate-put-text-2 : tie.Need-slice-aggregate-put-text-2
-slice-aggregate-put-text-2 c = search needs
 
 put-text-requires-2 : tie.Need-put-text-requires-2
 put-text-requires-2 c κs = omega (arith, room (c .before .before))
@@ -57,9 +48,6 @@ put-number-requires : tie.Need-put-number-requires
 put-number-requires c κs =
     let t = c .before .before .before in
     omega (arith, room (t .before .before .before), t .put-text2 .ensures .ends, t .put-text2 .kept .0)
-
-same-length-2 : tie.Need-same-length-2
-same-length-2 c = search needs
 
 returns-2 : tie.Need-returns-2
 returns-2 c =
@@ -73,13 +61,5 @@ returns-2 c =
 pub put-stem-spec : {M : Type 1} → statement M
 put-stem-spec =
     tie.close
-    (tie.spec
-    slice-aggregate-put-text
-    put-text-requires
-    same-length
-    returns
-    slice-aggregate-put-text-2
-    put-text-requires-2
-    put-number-requires
-    same-length-2
-    returns-2)
+    (tie.spec (λ c. search needs) put-text-requires (λ c. search needs) returns (λ c. search needs) put-text-requires-2
+    put-number-requires (λ c. search needs) returns-2)

@@ -18,18 +18,6 @@ module _ (c : tie.After-code) where
   told : c .code .result ≡ numberOf (firstOf (checkRows (begin .args .script .now)))
   told = c .code .ensures ∙ ap numberOf (c .before .check-script .ensures)
 
-check-script-requires : tie.Need-check-script-requires
-check-script-requires c κs = search needs
-
-code-requires : tie.Need-code-requires
-code-requires c κs = search needs
-
-put-refusal-requires : tie.Need-put-refusal-requires
-put-refusal-requires c κs = search needs
-
-same-length : tie.Need-same-length
-same-length c = search needs
-
 returns : tie.Need-returns
 returns c =
     let t = c .before .before .before .before in
@@ -44,12 +32,6 @@ map-after-requires c κs =
     let k = c .before .before in
     sym (k .before .check-script .ensures) ∙ is-ok _ (sym (k .code .ensures) ∙ c .before .if1 .left)
 
-put-map-requires : tie.Need-put-map-requires
-put-map-requires c κs = search needs
-
-same-length-2 : tie.Need-same-length-2
-same-length-2 c = search needs
-
 returns-2 : tie.Need-returns-2
 returns-2 c =
     let m = c .before .before .before in
@@ -63,13 +45,5 @@ returns-2 c =
 pub page-spec : {M : Type 1} → statement M
 page-spec =
     tie.close
-    (tie.spec
-    check-script-requires
-    code-requires
-    put-refusal-requires
-    same-length
-    returns
-    map-after-requires
-    put-map-requires
-    same-length-2
-    returns-2)
+    (tie.spec (λ c κs. search needs) (λ c κs. search needs) (λ c κs. search needs) (λ c. search needs) returns
+    map-after-requires (λ c κs. search needs) (λ c. search needs) returns-2)

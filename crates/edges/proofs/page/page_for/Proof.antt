@@ -8,18 +8,6 @@ use Rattle.edges.proofs.Pages.{by-argument}
 use Rattle.edges.proofs.page.page_for.Statement.{statement}
 use Rattle.edges.proofs.page.page_for.Tie as tie
 
-is-number-requires : tie.Need-is-number-requires
-is-number-requires c κs = search needs
-
-slice-aggregate-put-text : tie.Need-slice-aggregate-put-text
-slice-aggregate-put-text c = search needs
-
-put-text-requires : tie.Need-put-text-requires
-put-text-requires c κs = search needs
-
-same-length : tie.Need-same-length
-same-length c = search needs
-
 returns : tie.Need-returns
 returns c =
     let t = c .before .before .before .before .before in
@@ -28,15 +16,6 @@ returns c =
     (by-argument (a .script .now) (a .text .now) (sym (t .before .is-number .ensures) ∙ not-true _ (t .if1 .taken)))
     refl refl
     (c .before .before .put-text .ensures)
-
-number-in-requires : tie.Need-number-in-requires
-number-in-requires c κs = search needs
-
-page-requires : tie.Need-page-requires
-page-requires c κs = search needs
-
-same-length-2 : tie.Need-same-length-2
-same-length-2 c = search needs
 
 returns-2 : tie.Need-returns-2
 returns-2 c =
@@ -50,13 +29,5 @@ returns-2 c =
 pub page-for-spec : {M : Type 1} → statement M
 page-for-spec =
     tie.close
-    (tie.spec
-    is-number-requires
-    slice-aggregate-put-text
-    put-text-requires
-    same-length
-    returns
-    number-in-requires
-    page-requires
-    same-length-2
-    returns-2)
+    (tie.spec (λ c κs. search needs) (λ c. search needs) (λ c κs. search needs) (λ c. search needs) returns
+    (λ c κs. search needs) (λ c κs. search needs) (λ c. search needs) returns-2)

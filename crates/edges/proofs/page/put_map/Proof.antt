@@ -67,9 +67,6 @@ module _ (c : tie.After-of Inv-loop μ-loop) where
       let h : Fits w8 (c .of .result .stem) = search needs in
       line-room (c .of .result) f g (h .fits)
 
-summarize-requires : tie.Need-summarize-requires Inv-loop μ-loop
-summarize-requires c κs = search needs
-
 loop-holds : tie.Need-loop-holds Inv-loop μ-loop
 unfolding linesOf
 loop-holds c = (put-none _ _, (omega arith, (omega arith, refl)))
@@ -81,9 +78,6 @@ element-copy-out-of : tie.Need-element-copy-out-of Inv-loop μ-loop
 element-copy-out-of c =
     omega (arith, few (of-map (c .before .before)) (held (c .before .before)), all (c .before .before))
 
-of-requires : tie.Need-of-requires Inv-loop μ-loop
-of-requires c κs = search needs
-
 put-line-requires : tie.Need-put-line-requires Inv-loop μ-loop
 put-line-requires c κs =
     let l = loop c in
@@ -93,9 +87,6 @@ add-i : tie.Need-add-i Inv-loop μ-loop
 add-i c =
     let l = loop (c .before .before .before) in
     omega (arith, few (of-map l) (held l), all l)
-
-loop-less : tie.Need-loop-less Inv-loop μ-loop
-loop-less c = search needs
 
 loop-again : tie.Need-loop-again Inv-loop μ-loop
 loop-again c =
@@ -137,18 +128,5 @@ returns c =
 pub put-map-spec : {M : Type 1} → statement M
 put-map-spec =
     tie.close
-    (tie.spec
-    Inv-loop
-    μ-loop
-    summarize-requires
-    loop-holds
-    mul-of
-    element-copy-out-of
-    of-requires
-    put-line-requires
-    add-i
-    loop-less
-    loop-again
-    put-summary-requires
-    same-length
-    returns)
+    (tie.spec Inv-loop μ-loop (λ c κs. search needs) loop-holds mul-of element-copy-out-of (λ c κs. search needs)
+    put-line-requires add-i (λ c. search needs) loop-again put-summary-requires same-length returns)
