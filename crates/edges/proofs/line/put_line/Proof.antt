@@ -105,12 +105,16 @@ put-line-spec =
     let s = c .before .before .before .before in
     room-first _ _ (decimalText (edge s .height .bits)) (behindUnits (edge s)) (room s))
     (λ c. search needs)
-    (λ c κs. let d = c .before .before .before .before in room-first _ _ unitsText (fromPixels (edge (start d))) (units d))
+    (λ c κs.
+    let d = c .before .before .before .before in
+    room-first _ _ unitsText (fromPixels (edge (start d))) (units d))
     (λ c κs.
     let r = edge (start (before-text (c .before .before .before))) in
     room-first _ _ (decimalText (r .device .bits)) (behindPixels r) (middle (c .before .before .before)))
     (λ c. search needs)
-    (λ c κs. let d = c .before .before .before .before in room-first _ _ pixelsText (fromKind (at-device d)) (pixels d))
+    (λ c κs.
+    let d = c .before .before .before .before in
+    room-first _ _ pixelsText (fromKind (at-device d)) (pixels d))
     (λ c κs.
     let r = at-device (before-text2 (c .before .before .before)) in
     room-first _ _ (kindText (r .kind)) (fromStem r) (next (c .before .before .before)))
