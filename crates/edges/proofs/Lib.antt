@@ -2,5 +2,4 @@ pub mod Lines
 pub mod Parts
 pub mod Maps
 pub mod Digits
-pub mod Pages
 pub mod Unique

@@ -2,16 +2,14 @@
 use mathlib.Core.Path.{_≡_, refl}
 use mathlib.Core.Bool.{false}
 use mathlib.Core.List.{List, _++_}
-use Prim.Native.Nat.{ℕ, _+_, _%_, _≤_, _<_}
+use Prim.Native.Nat.{ℕ, _+_, _≤_, _<_}
 use native.Mathlib.Omega.{arith}
 use lib.ListN.{length, length-append}
-use Rattle.words.specs.declared.answer.Answer.{Answer}
-use Rattle.words.specs.Answers.{numberOf, placeOf}
 use Rattle.listing.specs.declared.summary.Summary.{Summary}
 use Rattle.decimal.specs.Decimal.{numberText}
 use Rattle.decimal.proofs.Sizes.{number-room}
 use Rattle.edges.specs.Page.{edgesText, pairsText, ghostsText, lockedText, refusedText, placeText, endText}
-use Rattle.edges.specs.Page.{summaryLine, refusalLine}
+use Rattle.edges.specs.Page.{summaryLine}
 
 -- a number behind its name
 abbrev pub part : List ℕ → ℕ → List ℕ
@@ -52,11 +50,6 @@ module _ (s : Summary) where
 -- ---- a refusal
 abbrev pub fromPlace : ℕ → List ℕ
 fromPlace p = part placeText p ++ endText false
-
-pub refusal-split : (a : Answer) →
-    refusalLine a ≡ part refusedText (numberOf a) ++ fromPlace (placeOf a % 4294967296)
-unfolding refusalLine
-refusal-split a = refl
 
 pub refusal-room : (n p : ℕ) → n < 4294967296 → p < 4294967296 → length (part refusedText n ++ fromPlace p) ≤ 100
 refusal-room n p h g =

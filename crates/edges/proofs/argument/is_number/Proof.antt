@@ -33,27 +33,15 @@ returns c = sym (none-number (c .before .args .text .now) (c .if1 .taken))
 loop-holds : tie.Need-loop-holds Inv-loop μ-loop
 loop-holds c = (refl, (omega arith, (refl, omega (arith, c .if1 .left))))
 
-shared-slice-read-if2 : tie.Need-shared-slice-read-if2 Inv-loop μ-loop
-shared-slice-read-if2 c = search needs
-
 returns-2 : tie.Need-returns-2 Inv-loop μ-loop
 returns-2 c =
     let l = c .before .before .before in
     sym (whole l (too-low (bytes l) (l .loop .i) (omega arith) (c .if2 .taken)))
 
-shared-slice-read-if3 : tie.Need-shared-slice-read-if3 Inv-loop μ-loop
-shared-slice-read-if3 c = search needs
-
 returns-3 : tie.Need-returns-3 Inv-loop μ-loop
 returns-3 c =
     let l = c .before .before .before .before .before in
     sym (whole l (too-high (bytes l) (l .loop .i) (omega arith) (c .before .before .if2 .left) (c .if3 .taken)))
-
-add-i : tie.Need-add-i Inv-loop μ-loop
-add-i c = search needs
-
-loop-less : tie.Need-loop-less Inv-loop μ-loop
-loop-less c = search needs
 
 loop-again : tie.Need-loop-again Inv-loop μ-loop
 loop-again c =
@@ -69,16 +57,5 @@ returns-4 c =
 pub is-number-spec : {M : Type 1} → statement M
 is-number-spec =
     tie.close
-    (tie.spec
-    Inv-loop
-    μ-loop
-    returns
-    loop-holds
-    shared-slice-read-if2
-    returns-2
-    shared-slice-read-if3
-    returns-3
-    add-i
-    loop-less
-    loop-again
-    returns-4)
+    (tie.spec Inv-loop μ-loop returns loop-holds (λ c. search needs) returns-2 (λ c. search needs) returns-3
+    (λ c. search needs) (λ c. search needs) loop-again returns-4)

@@ -24,28 +24,10 @@ loop-holds : tie.Need-loop-holds Inv-loop μ-loop
 unfolding askedIn
 loop-holds c = (refl, (omega arith, (omega arith, refl)))
 
-mul-least : tie.Need-mul-least Inv-loop μ-loop
-mul-least c = search needs
-
-shared-slice-read-worth : tie.Need-shared-slice-read-worth Inv-loop μ-loop
-shared-slice-read-worth c = search needs
-
-worth-requires : tie.Need-worth-requires Inv-loop μ-loop
-worth-requires c κs = search needs
-
 add-least : tie.Need-add-least Inv-loop μ-loop
 add-least c =
     let l = c .before .before .before in
     omega (arith, c .worth .ensures, c .before .shared-slice-known2 .given (l .loop .i))
-
-least-requires : tie.Need-least-requires Inv-loop μ-loop
-least-requires c κs = search needs
-
-add-i : tie.Need-add-i Inv-loop μ-loop
-add-i c = search needs
-
-loop-less : tie.Need-loop-less Inv-loop μ-loop
-loop-less c = search needs
 
 loop-again : tie.Need-loop-again Inv-loop μ-loop
 loop-again c =
@@ -71,16 +53,5 @@ returns c =
 pub number-in-spec : {M : Type 1} → statement M
 number-in-spec =
     tie.close
-    (tie.spec
-    Inv-loop
-    μ-loop
-    loop-holds
-    mul-least
-    shared-slice-read-worth
-    worth-requires
-    add-least
-    least-requires
-    add-i
-    loop-less
-    loop-again
-    returns)
+    (tie.spec Inv-loop μ-loop loop-holds (λ c. search needs) (λ c. search needs) (λ c κs. search needs) add-least
+    (λ c κs. search needs) (λ c. search needs) (λ c. search needs) loop-again returns)

@@ -15,16 +15,10 @@ room s = omega (arith, s .pre .1, length-append (s .args .name .now) (numberText
 put-text-requires : tie.Need-put-text-requires
 put-text-requires c κs = omega (arith, room (c .before .before .before))
 
-cast-put-number : tie.Need-cast-put-number
-cast-put-number c = search needs
-
 put-number-requires : tie.Need-put-number-requires
 put-number-requires c κs =
     let t = c .before .before .before in
     omega (arith, room (t .before .before .before .before), t .put-text .ensures .ends, t .put-text .kept .0)
-
-same-length : tie.Need-same-length
-same-length c = search needs
 
 returns : tie.Need-returns
 returns c =
@@ -35,4 +29,4 @@ returns c =
 
 pub put-count-spec : {M : Type 1} → statement M
 put-count-spec =
-    tie.close (tie.spec put-text-requires cast-put-number put-number-requires same-length returns)
+    tie.close (tie.spec put-text-requires (λ c. search needs) put-number-requires (λ c. search needs) returns)

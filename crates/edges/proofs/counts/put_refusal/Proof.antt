@@ -1,15 +1,14 @@
 -- `put_refusal` puts number and place one behind the other. Assumes nothing.
-use mathlib.Core.Path.{_≡_, refl, sym, ap, _∙_}
+use mathlib.Core.Path.{sym}
 use mathlib.Core.Bool.{false}
 use mathlib.Core.List.{_++_}
 use Prim.Native.Nat.{ℕ, _+_, _%_, _≤_, _<_}
 use native.Mathlib.Omega.{arith}
 use lib.ListN.{length}
 use borrow.Author.Needs.{needs}
-use Rattle.words.specs.Answers.{placeOf}
-use Rattle.decimal.proofs.Putting.{put-same, room-first, room-rest, put-both}
+use Rattle.decimal.proofs.Putting.{room-first, room-rest, put-both}
 use Rattle.edges.specs.Page.{refusedText, placeText, endText, refusalLine}
-use Rattle.edges.proofs.Parts.{part, fromPlace, refusal-split, refusal-room}
+use Rattle.edges.proofs.Parts.{part, fromPlace, refusal-room}
 use Rattle.edges.proofs.counts.put_refusal.Statement.{statement}
 use Rattle.edges.proofs.counts.put_refusal.Tie as tie
 
@@ -24,25 +23,6 @@ room : (c : tie.After-code) (p : ℕ) → p < 4294967296 →
     0 + length (part refusedText (c .code .result) ++ fromPlace p) ≤ length (start c .args .out .now)
 room c p h = omega (arith, start c .pre, refusal-room (c .code .result) p (small c) h)
 
-slice-aggregate-put-count : tie.Need-slice-aggregate-put-count
-slice-aggregate-put-count c = search needs
-
-code-requires : tie.Need-code-requires
-code-requires c κs = search needs
-
-cast-put-count : tie.Need-cast-put-count
-cast-put-count c = search needs
-
-put-count-requires : tie.Need-put-count-requires
-put-count-requires c κs =
-    (small c, room-first _ _ (part refusedText (c .code .result)) (fromPlace 0) (room c 0 (omega arith)))
-
-slice-aggregate-put-count-2 : tie.Need-slice-aggregate-put-count-2
-slice-aggregate-put-count-2 c = search needs
-
-place-requires : tie.Need-place-requires
-place-requires c κs = search needs
-
 -- the place, and the room that is left for it
 module _ (c : tie.After-place) where
   abbrev counted : tie.After-put-count
@@ -56,30 +36,15 @@ module _ (c : tie.After-place) where
       room-rest _ _ (part refusedText (counted .before .code .result)) (fromPlace place)
       (room (counted .before) place (omega arith)) (counted .put-count .ensures)
 
-put-count-requires-2 : tie.Need-put-count-requires-2
-put-count-requires-2 c κs = (omega arith, room-first _ _ (part placeText (place c)) (endText false) (left c))
-
-put-end-requires : tie.Need-put-end-requires
-put-end-requires c κs =
-    let d = c .before .before .before in
-    room-rest _ _ (part placeText (place (d .before))) (endText false) (left (d .before)) (d .put-count2 .ensures)
-
-same-length : tie.Need-same-length
-same-length c = search needs
-
 returns : tie.Need-returns
+unfolding refusalLine
 returns c =
     let e = c .before .before in
     let d = e .before .before .before .before in
     let p = d .before in
     let n = counted p in
     let k = n .before in
-    let a = start k .args .answer in
-    let line : refusalLine a ≡ part refusedText (k .code .result) ++ fromPlace (place p) =
-    refusal-split a ∙
-    ap (λ (m : ℕ). part refusedText m ++ fromPlace (placeOf a % 4294967296)) (sym (k .code .ensures)) ∙
-    ap (λ (m : ℕ). part refusedText (k .code .result) ++ fromPlace (m % 4294967296)) (sym (p .place .ensures)) in
-    put-same _ _ line refl refl
+    rw (sym (k .code .ensures), sym (p .place .ensures))
     (put-both _ _ (part refusedText (k .code .result)) (fromPlace (place p)) (room k (place p) (omega arith))
     (n .put-count .ensures)
     (put-both _ _ (part placeText (place p)) (endText false) (left p) (d .put-count2 .ensures) (e .put-end .ensures)))
@@ -87,14 +52,11 @@ returns c =
 pub put-refusal-spec : {M : Type 1} → statement M
 put-refusal-spec =
     tie.close
-    (tie.spec
-    slice-aggregate-put-count
-    code-requires
-    cast-put-count
-    put-count-requires
-    slice-aggregate-put-count-2
-    place-requires
-    put-count-requires-2
-    put-end-requires
-    same-length
-    returns)
+    (tie.spec (λ c. search needs) (λ c κs. search needs) (λ c. search needs)
+    (λ c κs. (small c, room-first _ _ (part refusedText (c .code .result)) (fromPlace 0) (room c 0 (omega arith))))
+    (λ c. search needs) (λ c κs. search needs)
+    (λ c κs. (omega arith, room-first _ _ (part placeText (place c)) (endText false) (left c)))
+    (λ c κs.
+    let d = c .before .before .before in
+    room-rest _ _ (part placeText (place (d .before))) (endText false) (left (d .before)) (d .put-count2 .ensures))
+    (λ c. search needs) returns)

@@ -1,5 +1,4 @@
 -- `put_summary` puts four counts one behind another. Assumes nothing.
-use mathlib.Core.Path.{refl, ap}
 use mathlib.Core.Bool.{false}
 use mathlib.Core.List.{_++_}
 use Prim.Native.Nat.{_+_, _≤_}
@@ -7,7 +6,7 @@ use native.Mathlib.Omega.{arith}
 use lib.ListN.{length}
 use borrow.Author.Needs.{needs}
 use Rattle.listing.specs.declared.summary.Summary.{Summary}
-use Rattle.decimal.proofs.Putting.{put-same, room-first, room-rest, put-both}
+use Rattle.decimal.proofs.Putting.{room-first, room-rest, put-both}
 use Rattle.edges.specs.Page.{edgesText, pairsText, ghostsText, lockedText, endText}
 use Rattle.edges.proofs.Parts.{part, fromLocked, fromGhosts, fromPairs, summary-split}
 use Rattle.edges.proofs.counts.put_summary.Statement.{statement}
@@ -19,7 +18,7 @@ sum s = s .args .summary
 
 room : (s : tie.Start) → s .args .at + length (part edgesText (sum s .edges) ++ fromPairs (sum s)) ≤
     length (s .args .out .now)
-room s = omega (arith, s .pre .1, ap length (summary-split (sum s)))
+room s = rw (summary-split (sum s)) at (s .pre .1)
 
 -- each count leaves the room of those behind it
 abbrev start : tie.After-put-count → tie.Start
@@ -55,51 +54,6 @@ ghosts c =
 abbrev start4 : tie.After-put-count4 → tie.After-put-count3
 start4 c = c .before .before .before .before .before
 
-slice-aggregate-put-count : tie.Need-slice-aggregate-put-count
-slice-aggregate-put-count c = search needs
-
-put-count-requires : tie.Need-put-count-requires
-put-count-requires c κs =
-    let s = c .before .before .before in
-    (omega (arith, s .pre .0 .0), room-first _ _ (part edgesText (sum s .edges)) (fromPairs (sum s)) (room s))
-
-slice-aggregate-put-count-2 : tie.Need-slice-aggregate-put-count-2
-slice-aggregate-put-count-2 c = search needs
-
-put-count-requires-2 : tie.Need-put-count-requires-2
-put-count-requires-2 c κs =
-    let d = c .before .before .before .before in
-    let s = sum (start d) in
-    (omega (arith, start d .pre .0 .1 .0), room-first _ _ (part pairsText (s .pairs)) (fromGhosts s) (edges d))
-
-slice-aggregate-put-count-3 : tie.Need-slice-aggregate-put-count-3
-slice-aggregate-put-count-3 c = search needs
-
-put-count-requires-3 : tie.Need-put-count-requires-3
-put-count-requires-3 c κs =
-    let d = c .before .before .before .before in
-    let b = start (start2 d) in
-    let s = sum b in
-    (omega (arith, b .pre .0 .1 .1 .0), room-first _ _ (part ghostsText (s .ghosts)) (fromLocked s) (pairs d))
-
-slice-aggregate-put-count-4 : tie.Need-slice-aggregate-put-count-4
-slice-aggregate-put-count-4 c = search needs
-
-put-count-requires-4 : tie.Need-put-count-requires-4
-put-count-requires-4 c κs =
-    let d = c .before .before .before .before in
-    let b = start (start2 (start3 d)) in
-    (omega (arith, b .pre .0 .1 .1 .1), room-first _ _ (part lockedText (sum b .locked)) (endText false) (ghosts d))
-
-put-end-requires : tie.Need-put-end-requires
-put-end-requires c κs =
-    let d = c .before .before .before in
-    let g = start4 d in
-    room-rest _ _ (part lockedText (sum3 g .locked)) (endText false) (ghosts g) (d .put-count4 .ensures)
-
-same-length : tie.Need-same-length
-same-length c = search needs
-
 returns : tie.Need-returns
 returns c =
     let e = c .before .before in
@@ -108,7 +62,7 @@ returns c =
     let p = start3 g in
     let b = start2 p in
     let s = sum3 g in
-    put-same _ _ (summary-split s) refl refl
+    rw (summary-split s)
     (put-both _ _ (part edgesText (s .edges)) (fromPairs s) (room (start b)) (b .put-count .ensures)
     (put-both _ _ (part pairsText (s .pairs)) (fromGhosts s) (edges b) (p .put-count2 .ensures)
     (put-both _ _ (part ghostsText (s .ghosts)) (fromLocked s) (pairs p) (g .put-count3 .ensures)
@@ -119,14 +73,28 @@ pub put-summary-spec : {M : Type 1} → statement M
 put-summary-spec =
     tie.close
     (tie.spec
-    slice-aggregate-put-count
-    put-count-requires
-    slice-aggregate-put-count-2
-    put-count-requires-2
-    slice-aggregate-put-count-3
-    put-count-requires-3
-    slice-aggregate-put-count-4
-    put-count-requires-4
-    put-end-requires
-    same-length
-    returns)
+    (λ c. search needs)
+    (λ c κs.
+    let s = c .before .before .before in
+    (omega (arith, s .pre .0 .0), room-first _ _ (part edgesText (sum s .edges)) (fromPairs (sum s)) (room s)))
+    (λ c. search needs)
+    (λ c κs.
+    let d = c .before .before .before .before in
+    let s = sum (start d) in
+    (omega (arith, start d .pre .0 .1 .0), room-first _ _ (part pairsText (s .pairs)) (fromGhosts s) (edges d)))
+    (λ c. search needs)
+    (λ c κs.
+    let d = c .before .before .before .before in
+    let b = start (start2 d) in
+    let s = sum b in
+    (omega (arith, b .pre .0 .1 .1 .0), room-first _ _ (part ghostsText (s .ghosts)) (fromLocked s) (pairs d)))
+    (λ c. search needs)
+    (λ c κs.
+    let d = c .before .before .before .before in
+    let b = start (start2 (start3 d)) in
+    (omega (arith, b .pre .0 .1 .1 .1), room-first _ _ (part lockedText (sum b .locked)) (endText false) (ghosts d)))
+    (λ c κs.
+    let d = c .before .before .before in
+    let g = start4 d in
+    room-rest _ _ (part lockedText (sum3 g .locked)) (endText false) (ghosts g) (d .put-count4 .ensures))
+    (λ c. search needs) returns)

@@ -1,13 +1,11 @@
 -- `put_line` puts the parts of a line one behind another. Assumes nothing.
-use mathlib.Core.Path.{refl, ap}
 use mathlib.Core.List.{_++_}
 use Prim.Native.Nat.{_+_, _≤_}
-use native.Mathlib.Omega.{arith}
 use lib.ListN.{length}
 use borrow.Author.Needs.{needs}
 use Rattle.listing.specs.declared.record.EdgeRecord.{EdgeRecord}
 use Rattle.decimal.specs.Decimal.{decimalText}
-use Rattle.decimal.proofs.Putting.{put-same, room-first, room-rest, put-both}
+use Rattle.decimal.proofs.Putting.{room-first, room-rest, put-both}
 use Rattle.edges.specs.Page.{unitsText, pixelsText, kindText, stemText, endText}
 use Rattle.edges.proofs.Lines.{fromStem, fromKind, behindPixels, fromPixels, behindUnits, line-split}
 use Rattle.edges.proofs.line.put_line.Statement.{statement}
@@ -19,7 +17,7 @@ edge s = s .args .edge
 
 room : (s : tie.Start) → s .args .at + length (decimalText (edge s .height .bits) ++ behindUnits (edge s)) ≤
     length (s .args .out .now)
-room s = omega (arith, s .pre, ap length (line-split (edge s)))
+room s = rw (line-split (edge s)) at (s .pre)
 
 -- each part leaves the room of those behind it
 abbrev start : tie.After-put-decimal → tie.Start
@@ -80,50 +78,6 @@ owned c =
     let r = at-kind (before-stem c) in
     room-rest _ _ (stemText (r .stem)) (endText (r .locked)) (named (before-stem c)) (c .put-stem .ensures)
 
-put-decimal-requires : tie.Need-put-decimal-requires
-put-decimal-requires c κs =
-    let s = c .before .before .before .before in
-    room-first _ _ (decimalText (edge s .height .bits)) (behindUnits (edge s)) (room s)
-
-slice-aggregate-put-text : tie.Need-slice-aggregate-put-text
-slice-aggregate-put-text c = search needs
-
-put-text-requires : tie.Need-put-text-requires
-put-text-requires c κs =
-    let d = c .before .before .before .before in
-    room-first _ _ unitsText (fromPixels (edge (start d))) (units d)
-
-put-decimal-requires-2 : tie.Need-put-decimal-requires-2
-put-decimal-requires-2 c κs =
-    let d = c .before .before .before in
-    let r = edge (start (before-text d)) in
-    room-first _ _ (decimalText (r .device .bits)) (behindPixels r) (middle d)
-
-slice-aggregate-put-text-2 : tie.Need-slice-aggregate-put-text-2
-slice-aggregate-put-text-2 c = search needs
-
-put-text-requires-2 : tie.Need-put-text-requires-2
-put-text-requires-2 c κs =
-    let d = c .before .before .before .before in
-    room-first _ _ pixelsText (fromKind (at-device d)) (pixels d)
-
-put-kind-requires : tie.Need-put-kind-requires
-put-kind-requires c κs =
-    let d = c .before .before .before in
-    let r = at-device (before-text2 d) in
-    room-first _ _ (kindText (r .kind)) (fromStem r) (next d)
-
-put-stem-requires : tie.Need-put-stem-requires
-put-stem-requires c κs =
-    let d = c .before .before .before in
-    room-first _ _ (stemText (at-kind d .stem)) (endText (at-kind d .locked)) (named d)
-
-put-end-requires : tie.Need-put-end-requires
-put-end-requires c κs = owned (c .before .before .before)
-
-same-length : tie.Need-same-length
-same-length c = search needs
-
 returns : tie.Need-returns
 returns c =
     let e = c .before .before in
@@ -134,7 +88,7 @@ returns c =
     let m = before-device d in
     let u = before-text m in
     let r = at-kind k in
-    put-same _ _ (line-split r) refl refl
+    rw (line-split r)
     (put-both _ _ (decimalText (r .height .bits)) (behindUnits r) (room (start u)) (u .put-decimal .ensures)
     (put-both _ _ unitsText (fromPixels r) (units u) (m .put-text .ensures)
     (put-both _ _ (decimalText (r .device .bits)) (behindPixels r) (middle m) (d .put-decimal2 .ensures)
@@ -147,14 +101,24 @@ pub put-line-spec : {M : Type 1} → statement M
 put-line-spec =
     tie.close
     (tie.spec
-    put-decimal-requires
-    slice-aggregate-put-text
-    put-text-requires
-    put-decimal-requires-2
-    slice-aggregate-put-text-2
-    put-text-requires-2
-    put-kind-requires
-    put-stem-requires
-    put-end-requires
-    same-length
-    returns)
+    (λ c κs.
+    let s = c .before .before .before .before in
+    room-first _ _ (decimalText (edge s .height .bits)) (behindUnits (edge s)) (room s))
+    (λ c. search needs)
+    (λ c κs.
+    let d = c .before .before .before .before in
+    room-first _ _ unitsText (fromPixels (edge (start d))) (units d))
+    (λ c κs.
+    let r = edge (start (before-text (c .before .before .before))) in
+    room-first _ _ (decimalText (r .device .bits)) (behindPixels r) (middle (c .before .before .before)))
+    (λ c. search needs)
+    (λ c κs.
+    let d = c .before .before .before .before in
+    room-first _ _ pixelsText (fromKind (at-device d)) (pixels d))
+    (λ c κs.
+    let r = at-device (before-text2 (c .before .before .before)) in
+    room-first _ _ (kindText (r .kind)) (fromStem r) (next (c .before .before .before)))
+    (λ c κs.
+    let r = at-kind (c .before .before .before) in
+    room-first _ _ (stemText (r .stem)) (endText (r .locked)) (named (c .before .before .before)))
+    (λ c κs. owned (c .before .before .before)) (λ c. search needs) returns)

@@ -1,14 +1,13 @@
 -- `put_stem` puts that there is no stem, or the digits of one. Assumes nothing.
-use mathlib.Core.Path.{_≡_, refl, ap}
+use mathlib.Core.Path.{_≡_, ap}
 use mathlib.Core.Bool.{Bool, cond}
-use mathlib.Core.List.{_++_}
-use Prim.Native.Nat.{_+_, _≤_}
-use native.Mathlib.Omega.{arith}
-use lib.ListN.{length, length-append}
+use mathlib.Core.List.{List, _++_}
+use Prim.Native.Nat.{ℕ, _+_, _≤_}
+use lib.ListN.{length}
 use borrow.Author.Needs.{needs}
 use borrow.Author.Tests.{eq-eqb, ne-eqb}
 use Rattle.decimal.specs.Decimal.{numberText}
-use Rattle.decimal.proofs.Putting.{put-same, put-behind}
+use Rattle.decimal.proofs.Putting.{room-first, room-rest, put-both}
 use Rattle.edges.specs.Page.{ofNoStem, ofStem, stemText}
 use Rattle.edges.proofs.line.put_stem.Statement.{statement}
 use Rattle.edges.proofs.line.put_stem.Tie as tie
@@ -19,67 +18,36 @@ none c =
     let n = c .before .before .args .stem in
     ap (λ (b : Bool). cond b ofNoStem (ofStem ++ numberText n)) (eq-eqb n 96 (c .if1 .taken))
 
-some : (c : tie.Else1) →
-    stemText (c .before .before .args .stem) ≡ ofStem ++ numberText (c .before .before .args .stem)
+abbrev digits : tie.Else1 → List ℕ
+digits c = numberText (c .before .before .args .stem)
+
+some : (c : tie.Else1) → stemText (c .before .before .args .stem) ≡ ofStem ++ digits c
 some c =
-    let n = c .before .before .args .stem in
-    ap (λ (b : Bool). cond b ofNoStem (ofStem ++ numberText n)) (ne-eqb n 96 (c .if1 .left))
+    ap (λ (b : Bool). cond b ofNoStem (ofStem ++ digits c)) (ne-eqb (c .before .before .args .stem) 96 (c .if1 .left))
 
-room : (c : tie.Else1) → c .before .before .args .at + (9 + length (numberText (c .before .before .args .stem))) ≤
+room : (c : tie.Else1) → c .before .before .args .at + length (ofStem ++ digits c) ≤
     length (c .before .before .args .out .now)
-room c =
-    let n = c .before .before .args .stem in
-    omega (arith, c .before .before .pre, ap length (some c), length-append ofStem (numberText n))
-
-slice-aggregate-put-text : tie.Need-slice-aggregate-put-text
-slice-aggregate-put-text c = search needs
-
-put-text-requires : tie.Need-put-text-requires
-put-text-requires c κs =
-    let t = c .before .before in
-    omega (arith, t .before .before .pre, ap length (none t))
-
-same-length : tie.Need-same-length
-same-length c = search needs
+room c = rw (some c) at (c .before .before .pre)
 
 returns : tie.Need-returns
-returns c =
-    let t = c .before .before .before .before .before in
-    put-same _ _ (none t) refl refl (c .before .before .put-text .ensures)
-
-slice-aggregate-put-text-2 : tie.Need-slice-aggregate-put-text-2
-slice-aggregate-put-text-2 c = search needs
-
-put-text-requires-2 : tie.Need-put-text-requires-2
-put-text-requires-2 c κs = omega (arith, room (c .before .before))
-
-put-number-requires : tie.Need-put-number-requires
-put-number-requires c κs =
-    let t = c .before .before .before in
-    omega (arith, room (t .before .before .before), t .put-text2 .ensures .ends, t .put-text2 .kept .0)
-
-same-length-2 : tie.Need-same-length-2
-same-length-2 c = search needs
+returns c = rw (none (c .before .before .before .before .before)) (c .before .before .put-text .ensures)
 
 returns-2 : tie.Need-returns-2
 returns-2 c =
     let t = c .before .before .before .before .before .before in
     let e = t .before .before .before in
-    let a = e .before .before .args in
-    put-same _ _ (some e) refl refl
-    (put-behind (a .out .now) (a .at) ofStem (omega (arith, room e)) (t .put-text2 .ensures) (numberText (a .stem))
-    (c .before .before .put-number .ensures))
+    rw (some e)
+    (put-both _ _ ofStem (digits e) (room e) (t .put-text2 .ensures) (c .before .before .put-number .ensures))
 
 pub put-stem-spec : {M : Type 1} → statement M
 put-stem-spec =
     tie.close
-    (tie.spec
-    slice-aggregate-put-text
-    put-text-requires
-    same-length
-    returns
-    slice-aggregate-put-text-2
-    put-text-requires-2
-    put-number-requires
-    same-length-2
-    returns-2)
+    (tie.spec (λ c. search needs)
+    (λ c κs. rw (none (c .before .before)) at (c .before .before .before .before .pre))
+    (λ c. search needs) returns (λ c. search needs)
+    (λ c κs. room-first _ _ ofStem (digits (c .before .before)) (room (c .before .before)))
+    (λ c κs.
+    let t = c .before .before .before in
+    let e = t .before .before .before in
+    room-rest _ _ ofStem (digits e) (room e) (t .put-text2 .ensures))
+    (λ c. search needs) returns-2)

@@ -1,75 +1,37 @@
 -- `page` puts the refusal of a script, or its map. Assumes nothing.
-use mathlib.Core.Path.{_≡_, refl, sym, ap, _∙_}
+use mathlib.Core.Path.{sym, _∙_}
 use borrow.Author.Needs.{needs}
-use Rattle.words.specs.Answers.{numberOf, firstOf}
+use borrow.Author.Tests.{eq-eqb, ne-eqb}
+use Rattle.words.specs.Answers.{numberOf}
 use Rattle.words.proofs.Answers.{is-ok}
-use Rattle.script.specs.Script.{checkRows}
-use Rattle.decimal.proofs.Putting.{put-same}
-use Rattle.edges.specs.Page.{refusalLine, mapText}
-use Rattle.edges.proofs.Pages.{page-refused, page-drawn}
+use Rattle.edges.specs.Page.{pageOf}
 use Rattle.edges.proofs.page.page.Statement.{statement}
 use Rattle.edges.proofs.page.page.Tie as tie
 
--- the number of the script's answer
-module _ (c : tie.After-code) where
-  abbrev begin : tie.Start
-  begin = c .before .before .before .before
-
-  told : c .code .result ≡ numberOf (firstOf (checkRows (begin .args .script .now)))
-  told = c .code .ensures ∙ ap numberOf (c .before .check-script .ensures)
-
-check-script-requires : tie.Need-check-script-requires
-check-script-requires c κs = search needs
-
-code-requires : tie.Need-code-requires
-code-requires c κs = search needs
-
-put-refusal-requires : tie.Need-put-refusal-requires
-put-refusal-requires c κs = search needs
-
-same-length : tie.Need-same-length
-same-length c = search needs
-
 returns : tie.Need-returns
+unfolding pageOf
 returns c =
     let t = c .before .before .before .before in
     let k = t .before in
-    let a = begin k .args in
-    put-same _ _
-    (page-refused (a .script .now) (a .commands) (λ e. t .if1 .taken (told k ∙ e)) ∙
-    ap refusalLine (sym (k .before .check-script .ensures))) refl refl (c .before .before .put-refusal .ensures)
-
-map-after-requires : tie.Need-map-after-requires
-map-after-requires c κs =
-    let k = c .before .before in
-    sym (k .before .check-script .ensures) ∙ is-ok _ (sym (k .code .ensures) ∙ c .before .if1 .left)
-
-put-map-requires : tie.Need-put-map-requires
-put-map-requires c κs = search needs
-
-same-length-2 : tie.Need-same-length-2
-same-length-2 c = search needs
+    let a = k .before .check-script in
+    rw (sym (a .ensures), ne-eqb (numberOf (a .result)) 0 (λ e. t .if1 .taken (k .code .ensures ∙ e)))
+    (c .before .before .put-refusal .ensures)
 
 returns-2 : tie.Need-returns-2
+unfolding pageOf
 returns-2 c =
     let m = c .before .before .before in
     let t = m .before .before in
     let k = t .before in
-    let a = begin k .args in
-    put-same _ _
-    (page-drawn (a .script .now) (a .commands) (sym (told k) ∙ t .if1 .left) ∙
-    ap mapText (sym (m .map-after .ensures))) refl refl (c .before .before .put-map .ensures)
+    let a = k .before .check-script in
+    rw (sym (a .ensures), eq-eqb (numberOf (a .result)) 0 (sym (k .code .ensures) ∙ t .if1 .left))
+    (rw (m .map-after .ensures) at (c .before .before .put-map .ensures))
 
 pub page-spec : {M : Type 1} → statement M
 page-spec =
     tie.close
-    (tie.spec
-    check-script-requires
-    code-requires
-    put-refusal-requires
-    same-length
-    returns
-    map-after-requires
-    put-map-requires
-    same-length-2
-    returns-2)
+    (tie.spec (λ c κs. search needs) (λ c κs. search needs) (λ c κs. search needs) (λ c. search needs) returns
+    (λ c κs.
+    let k = c .before .before in
+    sym (k .before .check-script .ensures) ∙ is-ok _ (sym (k .code .ensures) ∙ c .before .if1 .left))
+    (λ c κs. search needs) (λ c. search needs) returns-2)

@@ -12,10 +12,9 @@ use borrow.Author.Needs.{needs}
 use Rattle.hintmap.specs.declared.map.HintMap.{HintMap}
 use Rattle.hintmap.proofs.Near.{held-long}
 use Rattle.listing.specs.declared.record.EdgeRecord.{EdgeRecord}
-use Rattle.listing.specs.declared.summary.Summary.{Summary}
-use Rattle.listing.specs.Records.{recordsOf, summaryOf}
+use Rattle.listing.specs.Records.{recordsOf}
 use Rattle.decimal.specs.Decimal.{Put}
-use Rattle.decimal.proofs.Putting.{put-none, put-same, put-length, put-behind}
+use Rattle.decimal.proofs.Putting.{put-none, put-length, put-behind}
 use Rattle.edges.specs.Page.{lineOf, linesOf, summaryLine, mapText}
 use Rattle.edges.proofs.Lines.{line-room, lines-more}
 use Rattle.edges.proofs.Parts.{summary-room}
@@ -46,8 +45,11 @@ module _ (l : tie.At-loop Inv-loop μ-loop) where
   all : l .before .summarize .result .edges ≡ length (recordsOf of-map)
   all = all-listed of-map held (l .before .summarize .result) (l .before .summarize .ensures)
 
+  most : l .before .summarize .result .edges ≤ 96
+  most = omega (arith, few of-map held, all)
+
   near : l .loop .next ≤ 9600
-  near = omega (arith, few of-map held, all)
+  near = omega (arith, most)
 
   room : 0 + length lines ≤ length (begin .args .out .now)
   room = omega (arith, near, begin .pre, l .loop .inv .0 .ends)
@@ -67,35 +69,9 @@ module _ (c : tie.After-of Inv-loop μ-loop) where
       let h : Fits w8 (c .of .result .stem) = search needs in
       line-room (c .of .result) f g (h .fits)
 
-summarize-requires : tie.Need-summarize-requires Inv-loop μ-loop
-summarize-requires c κs = search needs
-
 loop-holds : tie.Need-loop-holds Inv-loop μ-loop
 unfolding linesOf
 loop-holds c = (put-none _ _, (omega arith, (omega arith, refl)))
-
-mul-of : tie.Need-mul-of Inv-loop μ-loop
-mul-of c = omega (arith, few (of-map (c .before .before)) (held (c .before .before)), all (c .before .before))
-
-element-copy-out-of : tie.Need-element-copy-out-of Inv-loop μ-loop
-element-copy-out-of c =
-    omega (arith, few (of-map (c .before .before)) (held (c .before .before)), all (c .before .before))
-
-of-requires : tie.Need-of-requires Inv-loop μ-loop
-of-requires c κs = search needs
-
-put-line-requires : tie.Need-put-line-requires Inv-loop μ-loop
-put-line-requires c κs =
-    let l = loop c in
-    omega (arith, near l, line c, long l, begin l .pre)
-
-add-i : tie.Need-add-i Inv-loop μ-loop
-add-i c =
-    let l = loop (c .before .before .before) in
-    omega (arith, few (of-map l) (held l), all l)
-
-loop-less : tie.Need-loop-less Inv-loop μ-loop
-loop-less c = search needs
 
 loop-again : tie.Need-loop-again Inv-loop μ-loop
 loop-again c =
@@ -109,46 +85,31 @@ loop-again c =
     ap (λ (q : EdgeRecord). lines l ++ lineOf q) (sym (p .before .of .ensures)) in
     let q = put-behind _ _ (lines l) (room l) (l .loop .inv .0) (lineOf r) (p .put-line .ensures) in
     let n : p .put-line .result ≤ 100 * (i + 1) = omega (arith, p .put-line .ensures .ends, line (p .before)) in
-    (put-same _ _ e refl refl q, (n, (omega arith, omega arith)))
-
-put-summary-requires : tie.Need-put-summary-requires Inv-loop μ-loop
-put-summary-requires c κs =
-    let l = c .before .before in
-    let s = l .before .summarize .result in
-    let n = few-counted (of-map l) (held l) s (l .before .summarize .ensures) in
-    (n, omega (arith, near l, long l, begin l .pre, summary-room s (n .0) (n .1 .0) (n .1 .1 .0) (n .1 .1 .1)))
-
-same-length : tie.Need-same-length Inv-loop μ-loop
-same-length c = c .before .before .put-summary .kept .0 ∙ long (c .before .before .before .before .before)
+    (rw e q, (n, (omega arith, omega arith)))
 
 returns : tie.Need-returns Inv-loop μ-loop
 unfolding mapText
 returns c =
     let l = c .before .before .before .before .before in
-    let rs = recordsOf (of-map l) in
-    let s = l .before .summarize .result in
-    let e : linesOf rs ++ summaryLine (summaryOf rs) ≡ lines l ++ summaryLine s =
-    ap (λ (q : List EdgeRecord). linesOf q ++ summaryLine (summaryOf rs))
-    (sym (take-all (l .loop .i) rs (omega (arith, all l)))) ∙
-    ap (λ (t : Summary). lines l ++ summaryLine t) (sym (l .before .summarize .ensures)) in
-    put-same _ _ e refl refl
-    (put-behind _ _ (lines l) (room l) (l .loop .inv .0) (summaryLine s) (c .before .before .put-summary .ensures))
+    let s = l .before .summarize in
+    rw (sym (s .ensures))
+    (rw (take-all (l .loop .i) (recordsOf (of-map l)) (omega (arith, all l))) at
+    (put-behind _ _ (lines l) (room l) (l .loop .inv .0) (summaryLine (s .result))
+    (c .before .before .put-summary .ensures)))
 
 pub put-map-spec : {M : Type 1} → statement M
 put-map-spec =
     tie.close
-    (tie.spec
-    Inv-loop
-    μ-loop
-    summarize-requires
-    loop-holds
-    mul-of
-    element-copy-out-of
-    of-requires
-    put-line-requires
-    add-i
-    loop-less
-    loop-again
-    put-summary-requires
-    same-length
-    returns)
+    (tie.spec Inv-loop μ-loop (λ c κs. search needs) loop-holds
+    (λ c. omega (arith, most (c .before .before)))
+    (λ c. omega (arith, most (c .before .before)))
+    (λ c κs. search needs)
+    (λ c κs. omega (arith, near (loop c), line c, long (loop c), begin (loop c) .pre))
+    (λ c. omega (arith, most (loop (c .before .before .before))))
+    (λ c. search needs) loop-again
+    (λ c κs.
+    let l = c .before .before in
+    let s = l .before .summarize .result in
+    let n = few-counted (of-map l) (held l) s (l .before .summarize .ensures) in
+    (n, omega (arith, near l, long l, begin l .pre, summary-room s (n .0) (n .1 .0) (n .1 .1 .0) (n .1 .1 .1))))
+    (λ c. c .before .before .put-summary .kept .0 ∙ long (c .before .before .before .before .before)) returns)
