@@ -35,6 +35,7 @@ seenSummary (Listed s) = s
 seenSummary (Refused a) = noSummary
 seenSummary ListRoom = noSummary
 
+-- the answer of a listing, as one to a script
 abbrev pub seenAs : ListAnswer → SeenAnswer
 seenAs (Lists s) = Listed s
 seenAs NoListRoom = ListRoom
