@@ -11,7 +11,8 @@ use Rattle.stems.specs.declared.edge.Kind.the-variants.{GhostBottom, GhostTop}
 use Rattle.stems.specs.declared.edge.Hint.{Hint}
 use Rattle.stems.specs.Edge.{noHint}
 use Rattle.hintmap.specs.declared.map.HintMap.{HintMap}
-use Rattle.hintmap.specs.Insert.{chosen, insertIn}
+use Rattle.hintmap.specs.declared.insert.Edges.the-variants.{One}
+use Rattle.hintmap.specs.Insert.{insertIn}
 use Rattle.zones.specs.State.{icfBottom, icfTop}
 
 -- a locked, synthetic edge
@@ -43,8 +44,7 @@ emTop s = ghostAt GhostTop boxTop (addF (roundF (mulF boxTop s)) HALF) s
 
 abbrev pub boxedBy : HintMap → Bool → HintMap → HintMap
 boxedBy initial given m =
-    insertIn (insertIn m (chosen (emBottom (m .scale)) noHint) initial given) (chosen noHint (emTop (m .scale))) initial
-    given
+    insertIn (insertIn m (One (emBottom (m .scale))) initial given) (One (emTop (m .scale))) initial given
 
 -- both, bottom first, where em-box hints are asked for
 unfoldable pub emBoxed : Bool → HintMap → Bool → HintMap → HintMap
@@ -59,7 +59,7 @@ uncovered m =
 
 -- no initial map is given, and the one that is named is not read
 abbrev pub baselineBy : Bool → HintMap → HintMap
-baselineBy true m = insertIn m (chosen (ghostAt GhostBottom ZERO ZERO (m .scale)) noHint) m false
+baselineBy true m = insertIn m (One (ghostAt GhostBottom ZERO ZERO (m .scale))) m false
 baselineBy false m = m
 
 -- a bottom ghost at height 0 and device 0 where no edge covers the baseline

@@ -7,7 +7,8 @@ use Rattle.stems.specs.declared.edge.StemHint.{StemHint}
 use Rattle.stems.specs.declared.edge.Side.the-variants.{Bottom, Top}
 use Rattle.stems.specs.declared.edge.Hint.{Hint}
 use Rattle.stems.specs.Mask.{isActive, cleared}
-use Rattle.stems.specs.Edge.{setupOf}
+use Rattle.stems.specs.declared.edge.Shape.{Shape}
+use Rattle.stems.specs.Edge.{shapeOf, setupOf}
 use Rattle.zones.specs.declared.state.HintState.{HintState}
 use Rattle.zones.specs.declared.capture.Captured.{Captured}
 use Rattle.zones.specs.Capture.{captureOf}
@@ -30,14 +31,15 @@ preparedOf st stem i =
     preparedBy (setupOf stem i (st .scale) Bottom .locked || setupOf stem i (st .scale) Top .locked) st
     (setupOf stem i (st .scale) Bottom) (setupOf stem i (st .scale) Top)
 
-abbrev pub putBy : Bool → HintMap → Bool → Placed → ℕ → Captured → Placed
-putBy true initial given p i e =
-    record { map = insertIn (p .map) (chosen (e .bottom) (e .top)) initial given; rest = cleared (p .rest) i }
-putBy false initial given p i e = p
+-- a stem's edges put in, where they are to be
+abbrev pub putBy : Bool → HintMap → Bool → Placed → ℕ → Shape → Captured → Placed
+putBy true initial given p i h e =
+    record { map = insertIn (p .map) (chosen h (e .bottom) (e .top)) initial given; rest = cleared (p .rest) i }
+putBy false initial given p i h e = p
 
 abbrev pub lockedBy : Bool → HintState → HintMap → Bool → Placed → ℕ → StemHint → Placed
 lockedBy true st initial given p i stem =
-    putBy (preparedOf st stem i .captured) initial given p i (preparedOf st stem i)
+    putBy (preparedOf st stem i .captured) initial given p i (shapeOf stem) (preparedOf st stem i)
 lockedBy false st initial given p i stem = p
 
 -- an active stem that is locked or captured is put in, and is handled even if it is dropped
@@ -47,7 +49,8 @@ lockedTurn st initial given p i stem = lockedBy (isActive (p .rest) i) st initia
 abbrev pub freeBy : Bool → HintState → HintMap → Placed → ℕ → StemHint → Placed
 freeBy true st initial p i stem =
     record {
-      map = insertIn (p .map) (chosen (setupOf stem i (st .scale) Bottom) (setupOf stem i (st .scale) Top))
+      map = insertIn (p .map)
+          (chosen (shapeOf stem) (setupOf stem i (st .scale) Bottom) (setupOf stem i (st .scale) Top))
           initial true;
       rest = p .rest;
     }

@@ -52,10 +52,8 @@ pub(crate) fn with_em_box(map: HintMap, wanted: bool, initial: HintMap, given: b
 {
     if wanted {
         let scale = map.scale;
-        let bottom = Edges::choose(em_bottom(scale), Hint::none());
-        let top = Edges::choose(Hint::none(), em_top(scale));
-        let one = map.insert(bottom, initial, given);
-        return one.insert(top, initial, given);
+        let one = map.insert(Edges::One(em_bottom(scale)), initial, given);
+        return one.insert(Edges::One(em_top(scale)), initial, given);
     }
     map
 }
@@ -86,7 +84,7 @@ pub(crate) fn with_baseline(map: HintMap) -> HintMap
     if is_uncovered(map) {
         let scale = map.scale;
         let baseline = ghost_at(Kind::GhostBottom, Fixed::ZERO, Fixed::ZERO, scale);
-        return map.insert(Edges::choose(baseline, Hint::none()), map, false);
+        return map.insert(Edges::One(baseline), map, false);
     }
     map
 }

@@ -76,7 +76,7 @@ pub(crate) fn place_locked(
         }
         let bottom = edges.bottom;
         let top = edges.top;
-        map = map.insert(Edges::choose(bottom, top), initial, given);
+        map = map.insert(Edges::choose(stem.shape(), bottom, top), initial, given);
         rest = rest.clear(i);
     }
     Placed { map, rest }
@@ -96,7 +96,7 @@ pub(crate) fn place_free(p: Placed, state: HintState, stems: Stems, initial: Hin
         let stem = stems.list[i];
         let bottom = Hint::setup(stem, i as u8, state.scale, Side::Bottom);
         let top = Hint::setup(stem, i as u8, state.scale, Side::Top);
-        map = map.insert(Edges::choose(bottom, top), initial, true);
+        map = map.insert(Edges::choose(stem.shape(), bottom, top), initial, true);
     }
     Placed { map, rest }
 }

@@ -1,11 +1,10 @@
 -- On a list in never-falling height the mapping goes by the last edge at or below, by the first
 -- with the map's scale where all are above, and by the scale where there is none. Assumes nothing.
 use mathlib.Core.Path.{_≡_, refl, ap}
-use mathlib.Core.Bool.{Bool, true, false, and-false}
+use mathlib.Core.Bool.{Bool, true, false}
 use mathlib.Core.List.{List, [], _∷_}
 use Prim.Native.Nat.{ℕ, zero, suc, _≤_, _<_}
 use native.Mathlib.Omega.{arith}
-use lib.Dec.{eqb}
 use lib.ListN.{length, getD}
 use lib.Signed.{_≤ℤ_, _<ℤ_}
 use Rattle.fixed.specs.declared.Fixed.{Fixed}
@@ -16,6 +15,7 @@ use Rattle.hintmap.specs.declared.map.HintMap.{HintMap}
 use Rattle.stems.specs.Edge.{noHint}
 use Rattle.hintmap.specs.Map.{view, leading, reach, line, mapOf}
 use Rattle.hintmap.specs.WholeStems.{height, WholeStems, Ascends, Last, Above}
+use Rattle.hintmap.proofs.Walk.{serves-at}
 use Rattle.hintmap.proofs.Words.{stems-ascend}
 
 tail-ascends : (e : Hint) (es : List Hint) → Ascends (e ∷ es) → Ascends es
@@ -54,10 +54,9 @@ map-last : (es : List Hint) (s h : Fixed) (k : ℕ) → Ascends es → Last es h
 unfolding mapOf
 map-last [] s h k a l = absurd (omega (arith, l .there))
 map-last (e ∷ es) s h k a l =
-    let p : height e .bits ≤ℤ height (getD (e ∷ es) k noHint) .bits = a 0 k (omega arith) (l .there) in
     let b = l .below in
-    let t : lessF h (height e) ≡ false = omega heights in
-    rw (reach-last e es h k a l, t, and-false (eqb k 0))
+    let t : lessF h (height (getD (e ∷ es) k noHint)) ≡ false = omega heights in
+    rw (serves-at e es h, reach-last e es h k a l, t)
 
 map-first : (es : List Hint) (s h : Fixed) → 0 < length es → Above es h → mapOf es s h ≡ line (getD es 0 noHint) s h
 unfolding mapOf
@@ -65,7 +64,7 @@ map-first [] s h l a = absurd (omega arith)
 map-first (e ∷ es) s h l a =
     let p : h .bits <ℤ height e .bits = a 0 (omega arith) in
     let t : lessF h (height e) ≡ true = omega heights in
-    rw (reach-none es h (λ p. a 1 (omega arith)), t)
+    rw (serves-at e es h, reach-none es h (λ p. a 1 (omega arith)), t)
 
 map-none : (es : List Hint) (s h : Fixed) → length es ≡ 0 → mapOf es s h ≡ mulF h s
 unfolding mapOf

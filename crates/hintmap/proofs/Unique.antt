@@ -5,6 +5,7 @@ use mathlib.Core.Bool.{Bool}
 use contract.Lifetimes.{Lfts}
 use Rattle.fixed.specs.declared.Fixed.{Fixed}
 use Rattle.stems.specs.declared.edge.Hint.{Hint}
+use Rattle.stems.specs.declared.edge.Shape.{Shape}
 use Rattle.hintmap.specs.declared.map.HintMap.{HintMap}
 use Rattle.hintmap.specs.declared.insert.Edges.{Edges}
 use Rattle.hintmap.proofs.insert.Edges.choose.Reads as choose-reads
@@ -36,7 +37,7 @@ module _ (κs : Lfts 0) (m : HintMap) (h : Fixed) (r r′ : Fixed) where
       transform-reads.Post κs (m, (h, tt)) r′ (m, (h, tt)) → r ≡ r′
   transform-unique p q = p ∙ sym q
 
-module _ (κs : Lfts 0) (b t : Hint) (r r′ : Edges) where
-  pub choose-unique : choose-reads.Post κs (b, (t, tt)) r (b, (t, tt)) →
-      choose-reads.Post κs (b, (t, tt)) r′ (b, (t, tt)) → r ≡ r′
+module _ (κs : Lfts 0) (h : Shape) (b t : Hint) (r r′ : Edges) where
+  pub choose-unique : choose-reads.Post κs (h, (b, (t, tt))) r (h, (b, (t, tt))) →
+      choose-reads.Post κs (h, (b, (t, tt))) r′ (h, (b, (t, tt))) → r ≡ r′
   choose-unique p q = p ∙ sym q

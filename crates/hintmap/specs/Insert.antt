@@ -1,4 +1,5 @@
 -- What an insertion is (01, "The map", first paragraph).
+use mathlib.Core.Path.{_≡_}
 use mathlib.Core.Bool.{Bool, true, false, not, _&&_, _||_}
 use mathlib.Core.List.{List, [], _∷_}
 use Prim.Native.Nat.{ℕ}
@@ -7,6 +8,8 @@ use lib.Dec.{ltb}
 use Rattle.fixed.specs.declared.Fixed.{Fixed}
 use Rattle.fixed.specs.Fixed.{addF, subF, mulF, halfF, midpointF, lessF, atMostF, sameF}
 use Rattle.stems.specs.declared.edge.Hint.{Hint}
+use Rattle.stems.specs.declared.edge.Shape.{Shape}
+use Rattle.stems.specs.declared.edge.Shape.the-variants.{BottomGhost, TopGhost, Pair}
 use Rattle.hintmap.specs.declared.map.HintMap.{HintMap}
 use Rattle.hintmap.specs.declared.insert.Edges.{Edges}
 use Rattle.hintmap.specs.declared.insert.Edges.the-variants.{One, Two}
@@ -15,14 +18,16 @@ use Rattle.hintmap.specs.declared.insert.Outcome.the-variants.{Enters, D
 use Rattle.stems.specs.Edge.{maxHints, lastHint, isValid, isPairTop, atDevice}
 use Rattle.hintmap.specs.Map.{view, placeAmong, putIn, mapOf, clearAhead, clearBehind}
 
-abbrev pub chosenBy : Bool → Bool → Hint → Hint → Edges
-chosenBy false v b t = One t
-chosenBy true false b t = One b
-chosenBy true true b t = Two b t
+-- what a stem's shape has of its bottom edge and its top edge: a ghost's one, or both of a pair
+unfoldable pub chosen : Shape → Hint → Hint → Edges
+chosen (BottomGhost h) b t = One b
+chosen (TopGhost h) b t = One t
+chosen (Pair l h) b t = Two b t
 
--- a stem's two edges, or the one that is valid
-unfoldable pub chosen : Hint → Hint → Edges
-chosen b t = chosenBy (isValid b) (isValid t) b t
+-- what is put in is there: a single edge is valid, and both of a pair are
+unfoldable pub Valid : Edges → Type 0
+Valid (One e) = isValid e ≡ true
+Valid (Two b t) = (isValid b ≡ true) × (isValid t ≡ true)
 
 abbrev pub firstEdge : Edges → Hint
 firstEdge (One e) = e

@@ -1,9 +1,8 @@
 -- What the edge map is, over the list of its edges (01, "The map").
-use mathlib.Core.Bool.{Bool, true, false, not, _&&_}
+use mathlib.Core.Bool.{Bool, true, false, not, cond}
 use mathlib.Core.List.{List, [], _∷_, _++_}
 use Prim.Native.Nat.{ℕ, zero, suc, _+_}
 use lib.ListN.{length, take, drop, getD, replicate}
-use lib.Dec.{eqb}
 use Rattle.fixed.specs.declared.Fixed.{Fixed}
 use Rattle.fixed.specs.Fixed.{addF, subF, mulF, lessF, atMostF}
 use Rattle.stems.specs.declared.edge.Hint.{Hint}
@@ -60,19 +59,31 @@ putIn m at new =
 abbrev pub reach : List Hint → Fixed → ℕ
 reach es h = leading (λ (e : Hint). atMostF (e .«cs_coord») h) es
 
+-- of edges in order, those at or below a height
+abbrev pub below : List Hint → Fixed → List Hint
+below es h = take (reach es h) es
+
+-- the last of an edge and those after it
+unfoldable pub lastOf : Hint → List Hint → Hint
+lastOf e [] = e
+lastOf e (x ∷ xs) = lastOf x xs
+
+-- the edge that serves a height: the last at or below it, and the first under all
+abbrev pub serving : Hint → List Hint → Fixed → Hint
+serving e es h = lastOf e (below es h)
+
 -- (height − edge height)·scale + edge device height
 unfoldable pub line : Hint → Fixed → Fixed → Fixed
 line e s h = addF (mulF (subF h (e .«cs_coord»)) s) (e .«ds_coord»)
 
-abbrev pub lineBy : Bool → Hint → Hint → Fixed → Fixed → Fixed
-lineBy true e x s h = line e s h
-lineBy false e x s h = line x (x .scale) h
+-- the line through an edge, with its own scale, or under it with the map's
+abbrev pub lineBy : Hint → Fixed → Fixed → Fixed
+lineBy x s h = line x (cond (lessF h (x .«cs_coord»)) s (x .scale)) h
 
--- the edge that serves, and the line through it
+-- the line through the edge that serves, and with no edges height·scale
 unfoldable pub mapOf : List Hint → Fixed → Fixed → Fixed
 mapOf [] s h = mulF h s
-mapOf (e ∷ es) s h =
-    lineBy (eqb (reach es h) 0 && lessF h (e .«cs_coord»)) e (getD (e ∷ es) (reach es h) noHint) s h
+mapOf (e ∷ es) s h = lineBy (serving e es h) s h
 
 -- ---- the tests beside a place
 

@@ -4,12 +4,13 @@ use fixed::Fixed;
 use stems::Hint;
 use stems::LAST_HINT;
 use stems::MAX_HINTS;
+use stems::Shape;
 ghost use mathlib.Core.Path.{_≡_};
 ghost use mathlib.Core.Bool.{true, not, _&&_};
 ghost use Prim.Native.Nat.{_≤_};
 ghost use lib.ListN.{length};
-ghost use Rattle.hintmap.specs.Insert.{chosen, firstEdge, edgesOf, mayEnter, bars, tooHigh, under, middleOf};
-ghost use Rattle.hintmap.specs.Insert.{around, putEdges, outcomeOf, insertIn};
+ghost use Rattle.hintmap.specs.Insert.{chosen, Valid, firstEdge, edgesOf, mayEnter, bars, tooHigh, under};
+ghost use Rattle.hintmap.specs.Insert.{middleOf, around, putEdges, outcomeOf, insertIn};
 
 // What is put in: one edge, or the two of a pair.
 pub enum Edges {
@@ -25,17 +26,15 @@ pub enum Outcome {
 }
 
 impl Edges {
-    // From `insert`: the edges of a stem that are valid. With neither, the top one.
-    pub fn choose(bottom: Hint, top: Hint) -> Edges
-        ensures { λ r. ⌜ r ≡ chosen bottom top ⌝ }
+    // From `insert`: the edges that a stem has, by its shape.
+    pub fn choose(shape: Shape, bottom: Hint, top: Hint) -> Edges
+        ensures { λ r. ⌜ r ≡ chosen shape bottom top ⌝ }
     {
-        if !bottom.is_valid() {
-            return Edges::One(top);
+        match shape {
+            Shape::BottomGhost(_) => Edges::One(bottom),
+            Shape::TopGhost(_) => Edges::One(top),
+            Shape::Pair(_, _) => Edges::Two(bottom, top),
         }
-        if !top.is_valid() {
-            return Edges::One(bottom);
-        }
-        Edges::Two(bottom, top)
     }
 
     fn first(self) -> Hint
@@ -224,9 +223,10 @@ impl HintMap {
         self
     }
 
-    // Ports `HintMap::insert`: a stem's edges are put in, or dropped. The initial map counts where
-    // it is given.
+    // Ports `HintMap::insert`: edges that are there are put in, or dropped. The initial map counts
+    // where it is given.
     pub fn insert(self, e: Edges, initial: HintMap, given: bool) -> HintMap
+        requires { ⌜ Valid e ⌝ }
         ensures { λ r. ⌜ r ≡ insertIn self e initial given ⌝ }
     {
         match self.outcome(e, initial, given) {

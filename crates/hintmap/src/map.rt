@@ -53,7 +53,7 @@ impl HintMap {
     }
 
     // Ports `HintMap::transform`: upward from the first edge, past each next one that is at or
-    // below the height, and downward again past each that is above it.
+    // below the height. There the Rust walks down again, which never takes a step.
     pub fn transform(self, height: Fixed) -> Fixed
         ensures { λ r. ⌜ r ≡ mapOf (view self) (self .scale) height ⌝ }
     {
@@ -69,17 +69,10 @@ impl HintMap {
             }
             i += 1;
         }
-        while 0 < i {
-            let edge = self.edges[i];
-            if !height.less(edge.cs_coord) {
-                return on_line(edge, edge.scale, height);
-            }
-            i -= 1;
+        let edge = self.edges[i];
+        if height.less(edge.cs_coord) {
+            return on_line(edge, self.scale, height);
         }
-        let first = self.edges[0];
-        if height.less(first.cs_coord) {
-            return on_line(first, self.scale, height);
-        }
-        on_line(first, first.scale, height)
+        on_line(edge, edge.scale, height)
     }
 }

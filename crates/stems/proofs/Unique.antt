@@ -10,8 +10,10 @@ use denote.Triple.Clauses.{AtExit}
 use Rattle.fixed.specs.declared.Fixed.{Fixed}
 use Rattle.stems.specs.declared.edge.StemHint.{StemHint}
 use Rattle.stems.specs.declared.edge.Side.{Side}
+use Rattle.stems.specs.declared.edge.Shape.{Shape}
 use Rattle.stems.specs.declared.edge.Hint.{Hint}
 use Rattle.stems.specs.declared.mask.HintMask.{HintMask}
+use Rattle.stems.proofs.edge.StemHint.shape.Reads as shape-reads
 use Rattle.stems.proofs.edge.Hint.none.Reads as none-reads
 use Rattle.stems.proofs.edge.Hint.setup.Reads as setup-reads
 use Rattle.stems.proofs.edge.Hint.is_valid.Reads as is-valid-reads
@@ -30,6 +32,10 @@ use Rattle.stems.proofs.mask.HintMask.new.Kinds as new-kinds
 use Rattle.stems.proofs.mask.HintMask.get.Reads as get-reads
 use Rattle.stems.proofs.mask.HintMask.clear.Reads as clear-reads
 use Rattle.stems.proofs.mask.HintMask.same.Reads as same-reads
+
+pub shape-unique : (κs : Lfts 0) (r r′ : Shape) (st : StemHint) → shape-reads.Post κs (st, tt) r (st, tt) →
+    shape-reads.Post κs (st, tt) r′ (st, tt) → r ≡ r′
+shape-unique κs r r′ st p q = p ∙ sym q
 
 module _ (κs : Lfts 0) (r r′ : Hint) where
   pub none-unique : none-reads.Post κs tt r tt → none-reads.Post κs tt r′ tt → r ≡ r′

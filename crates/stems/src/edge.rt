@@ -65,7 +65,7 @@ const GHOST_TOP_WIDTH: Fixed = Fixed { bits: -0x14_0000 };
 
 impl StemHint {
     // From `Hint::setup`: the stem's shape, by its width.
-    fn shape(self) -> Shape
+    pub fn shape(self) -> Shape
         ensures { λ r. ⌜ r ≡ shapeOf self ⌝ }
     {
         let min = self.min;

@@ -88,5 +88,5 @@ pub(crate) fn with_stem(
     }
     let bottom = Hint::setup(stem, index, map.scale, Side::Bottom);
     let top = Hint::setup(stem, index, map.scale, Side::Top);
-    map.insert(Edges::choose(bottom, top), initial, given)
+    map.insert(Edges::choose(stem.shape(), bottom, top), initial, given)
 }

@@ -1,25 +1,22 @@
--- `HintMap::transform` meets its contract. The first loop's invariant: the edges that the walk up
--- passes are `i` and those that it passes after the next. The second's: `i` is where the walk up
--- ends, so that its turn never goes on. Assumes nothing.
+-- `HintMap::transform` meets its contract. The loop's invariant: the edges that the walk up passes
+-- are `i` and those that it passes after the next. Assumes nothing.
 use borrow.Author.Needs.{needs}
 use mathlib.Core.Path.{_≡_, sym, ap, _∙_}
-use mathlib.Core.Bool.{false, _&&_, true≢false}
+use mathlib.Core.Bool.{Bool, cond}
 use mathlib.Core.List.{List}
 use mathlib.Core.Logic.{⊎-elim}
 use Prim.Native.Nat.{ℕ, _≤_, _<_, _-_, _+_}
 use native.Mathlib.Omega.{arith}
 use lib.ListN.{length, take, drop, getD}
-use lib.Dec.{eqb}
-use borrow.Author.Tests.{ne-eqb, not-false}
 use Rattle.fixed.specs.declared.Fixed.{Fixed}
 use Rattle.fixed.specs.Fixed.{lessF, atMostF}
 use Rattle.fixed.proofs.Counts.{take-least}
 use Rattle.stems.specs.declared.edge.Hint.{Hint}
 use Rattle.hintmap.specs.declared.map.HintMap.{HintMap}
 use Rattle.stems.specs.Edge.{noHint}
-use Rattle.hintmap.specs.Map.{view, reach, mapOf, line, lineBy}
+use Rattle.hintmap.specs.Map.{view, reach, line, lineBy, mapOf}
 use Rattle.hintmap.proofs.Near.{Asked, asked, held-long}
-use Rattle.hintmap.proofs.Walk.{no-way-back, map-some}
+use Rattle.hintmap.proofs.Walk.{map-some}
 use Rattle.hintmap.proofs.map.HintMap.transform.Statement.{statement}
 use Rattle.hintmap.proofs.map.HintMap.transform.Tie as tie
 
@@ -35,14 +32,8 @@ Inv-loop height self len i₀ i =
 abbrev μ-loop : tie.MeasureT-loop
 μ-loop height self len i₀ i = len - i
 
-abbrev Inv-loop2 : tie.InvT-loop2
-Inv-loop2 height self len i₀ i = (i < len) × ((len ≤ 96) × (i ≡ reach (drop 1 (view (cut self len))) height))
-
-abbrev μ-loop2 : tie.MeasureT-loop2
-μ-loop2 height self len i₀ i = i
-
 -- the map with its length cut to its room, whose edges are those of the map
-module _ (c : tie.After-least Inv-loop μ-loop Inv-loop2 μ-loop2) where
+module _ (c : tie.After-least Inv-loop μ-loop) where
   abbrev held : HintMap
   held = cut (c .before .args .t1) (c .least .result)
 
@@ -61,10 +52,10 @@ module _ (c : tie.After-least Inv-loop μ-loop Inv-loop2 μ-loop2) where
   known : Asked held (λ (e : Hint). atMostF (e .«cs_coord») (c .before .args .height))
   known = asked held (c .before .good .0 .1 .1 .0 .1 .0 .1) room _
 
--- what is known where the walk up has ended
-module _ (c : tie.At-loop2 Inv-loop μ-loop Inv-loop2 μ-loop2) where
-  abbrev begin : tie.After-least Inv-loop μ-loop Inv-loop2 μ-loop2
-  begin = c .before .before .before .before
+-- what is known where the walk has ended
+module _ (c : tie.Left-loop Inv-loop μ-loop) where
+  abbrev begin : tie.After-least Inv-loop μ-loop
+  begin = c .before .before .before
 
   abbrev map : HintMap
   map = held begin
@@ -72,28 +63,36 @@ module _ (c : tie.At-loop2 Inv-loop μ-loop Inv-loop2 μ-loop2) where
   abbrev at : Fixed
   at = begin .before .args .height
 
-  -- the line that is taken, by the place of the edge
-  abbrev taken : ℕ → Fixed
-  taken k =
-      lineBy (eqb k 0 && lessF at (getD (map .edges) 0 noHint .«cs_coord»)) (getD (map .edges) 0 noHint)
-      (getD (map .edges) k noHint) (map .scale) at
+  -- the edge that serves is the one there
+  abbrev served : Hint
+  served = getD (map .edges) (c .before .loop .i) noHint
 
-  mapped : mapOf (view (begin .before .args .t1)) (map .scale) at ≡ taken (c .loop2 .i)
+  ended : reach (drop 1 (view map)) at ≡ c .before .loop .i
+  ended =
+      c .before .loop .inv .1 .1 ∙
+      ⊎-elim (λ t. known begin .ends _ _ (t .left))
+      (λ t. known begin .stops _ _ (t .0 .taken) (t .2 .ensures) (t .3 .taken))
+      (c .loop-test .came)
+
+  mapped : mapOf (view (begin .before .args .t1)) (map .scale) at ≡ lineBy served (map .scale) at
   mapped =
       ap (λ (es : List Hint). mapOf es (map .scale) at) (same begin) ∙
       map-some (map .edges) (map .len) (map .scale) at (omega arith) (omega (arith, long begin)) ∙
-      ap taken (sym (c .loop2 .inv .1 .1))
+      ap (λ (k : ℕ). lineBy (getD (map .edges) k noHint) (map .scale) at) ended
 
-  no-way : 0 < c .loop2 .i → lessF at (getD (map .edges) (c .loop2 .i) noHint .«cs_coord») ≡ false
-  no-way p = no-way-back (map .edges) (map .len) at (c .loop2 .i) (c .loop2 .inv .1 .1) p (c .loop2 .inv .0)
+  -- on the line that the test of its height says
+  on : {b : Bool} {r : Fixed} → b ≡ lessF at (served .«cs_coord») →
+      r ≡ line served (cond b (map .scale) (served .scale)) at →
+      r ≡ mapOf (view (begin .before .args .t1)) (map .scale) at
+  on t e = e ∙ ap (λ (u : Bool). line served (cond u (map .scale) (served .scale)) at) t ∙ sym mapped
 
-least-requires : tie.Need-least-requires Inv-loop μ-loop Inv-loop2 μ-loop2
+least-requires : tie.Need-least-requires Inv-loop μ-loop
 least-requires c κs = search needs
 
-mul-requires : tie.Need-mul-requires Inv-loop μ-loop Inv-loop2 μ-loop2
+mul-requires : tie.Need-mul-requires Inv-loop μ-loop
 mul-requires c κs = search needs
 
-returns : tie.Need-returns Inv-loop μ-loop Inv-loop2 μ-loop2
+returns : tie.Need-returns Inv-loop μ-loop
 unfolding mapOf
 returns c =
     let l = c .before .before .before in
@@ -101,31 +100,31 @@ returns c =
     let e = same l ∙ ap (λ (n : ℕ). take n (l .before .args .t1 .edges)) z in
     rw e (c .mul .ensures)
 
-loop-holds : tie.Need-loop-holds Inv-loop μ-loop Inv-loop2 μ-loop2
+loop-holds : tie.Need-loop-holds Inv-loop μ-loop
 loop-holds c = (omega arith, (room (c .before), omega arith))
 
-add-loop : tie.Need-add-loop Inv-loop μ-loop Inv-loop2 μ-loop2
+add-loop : tie.Need-add-loop Inv-loop μ-loop
 add-loop c = omega arith
 
-add-next : tie.Need-add-next Inv-loop μ-loop Inv-loop2 μ-loop2
+add-next : tie.Need-add-next Inv-loop μ-loop
 add-next c = omega arith
 
-mul-next : tie.Need-mul-next Inv-loop μ-loop Inv-loop2 μ-loop2
+mul-next : tie.Need-mul-next Inv-loop μ-loop
 mul-next c = omega arith
 
-element-copy-out-next : tie.Need-element-copy-out-next Inv-loop μ-loop Inv-loop2 μ-loop2
+element-copy-out-next : tie.Need-element-copy-out-next Inv-loop μ-loop
 element-copy-out-next c = omega arith
 
-at-most-requires : tie.Need-at-most-requires Inv-loop μ-loop Inv-loop2 μ-loop2
+at-most-requires : tie.Need-at-most-requires Inv-loop μ-loop
 at-most-requires c κs = search needs
 
-add-i : tie.Need-add-i Inv-loop μ-loop Inv-loop2 μ-loop2
+add-i : tie.Need-add-i Inv-loop μ-loop
 add-i c = omega arith
 
-loop-less : tie.Need-loop-less Inv-loop μ-loop Inv-loop2 μ-loop2
+loop-less : tie.Need-loop-less Inv-loop μ-loop
 loop-less c = omega arith
 
-loop-again : tie.Need-loop-again Inv-loop μ-loop Inv-loop2 μ-loop2
+loop-again : tie.Need-loop-again Inv-loop μ-loop
 loop-again c =
     let at = c .before .before .before .before in (
       search needs,
@@ -137,77 +136,30 @@ loop-again c =
       ),
     )
 
-loop2-holds : tie.Need-loop2-holds Inv-loop μ-loop Inv-loop2 μ-loop2
-loop2-holds c =
-    let at = c .before in (
-      at .loop .inv .0,
-      (
-        at .loop .inv .1 .0,
-        sym (at .loop .inv .1 .1 ∙
-            ⊎-elim (λ t. known (at .before .before) .ends _ _ (t .left))
-            (λ t. known (at .before .before) .stops _ _ (t .0 .taken) (t .2 .ensures) (t .3 .taken))
-            (c .loop-test .came)),
-      ),
-    )
-
-mul-edge : tie.Need-mul-edge Inv-loop μ-loop Inv-loop2 μ-loop2
+mul-edge : tie.Need-mul-edge Inv-loop μ-loop
 mul-edge c = omega arith
 
-element-copy-out-edge : tie.Need-element-copy-out-edge Inv-loop μ-loop Inv-loop2 μ-loop2
+element-copy-out-edge : tie.Need-element-copy-out-edge Inv-loop μ-loop
 element-copy-out-edge c = omega arith
 
-less-requires : tie.Need-less-requires Inv-loop μ-loop Inv-loop2 μ-loop2
+less-requires : tie.Need-less-requires Inv-loop μ-loop
 less-requires c κs = search needs
 
-on-line-requires : tie.Need-on-line-requires Inv-loop μ-loop Inv-loop2 μ-loop2
+on-line-requires : tie.Need-on-line-requires Inv-loop μ-loop
 on-line-requires c κs = search needs
 
-returns-2 : tie.Need-returns-2 Inv-loop μ-loop Inv-loop2 μ-loop2
+returns-2 : tie.Need-returns-2 Inv-loop μ-loop
 returns-2 c =
-    let r = c .before .before .before .before .before in
-    let z : eqb (r .loop2 .i) 0 ≡ false = ne-eqb (r .loop2 .i) 0 (λ e. omega arith) in
-    rw (mapped r, z) (c .on-line .ensures)
+    on (c .before .before .before .before .before)
+    (sym (c .before .before .if3 .taken) ∙ c .before .before .before .less .ensures) (c .on-line .ensures)
 
-sub-i : tie.Need-sub-i Inv-loop μ-loop Inv-loop2 μ-loop2
-sub-i c = search needs
-
-loop2-less : tie.Need-loop2-less Inv-loop μ-loop Inv-loop2 μ-loop2
-loop2-less c = search needs
-
-loop2-again : tie.Need-loop2-again Inv-loop μ-loop Inv-loop2 μ-loop2
-loop2-again c =
-    let r = c .before .before .before .before in
-    absurd (true≢false (sym (not-false _ (c .if3 .left)) ∙ c .before .less .ensures ∙ no-way r (search needs)))
-
-element-copy-out-first : tie.Need-element-copy-out-first Inv-loop μ-loop Inv-loop2 μ-loop2
-element-copy-out-first c = search needs
-
-less-requires-2 : tie.Need-less-requires-2 Inv-loop μ-loop Inv-loop2 μ-loop2
-less-requires-2 c κs = search needs
-
-on-line-requires-2 : tie.Need-on-line-requires-2 Inv-loop μ-loop Inv-loop2 μ-loop2
+on-line-requires-2 : tie.Need-on-line-requires-2 Inv-loop μ-loop
 on-line-requires-2 c κs = search needs
 
-returns-3 : tie.Need-returns-3 Inv-loop μ-loop Inv-loop2 μ-loop2
+returns-3 : tie.Need-returns-3 Inv-loop μ-loop
 returns-3 c =
-    let r = c .before .before .before .before .before .before in
-    let z : r .loop2 .i ≡ 0 = omega arith in
-    let t = sym (c .before .before .before .less2 .ensures) ∙ c .before .before .if4 .taken in
-    let first = getD (map r .edges) 0 noHint in
-    let m : taken r 0 ≡ line first (map r .scale) (at r) = rw t in
-    c .on-line2 .ensures ∙ sym (mapped r ∙ ap (taken r) z ∙ m)
-
-on-line-requires-3 : tie.Need-on-line-requires-3 Inv-loop μ-loop Inv-loop2 μ-loop2
-on-line-requires-3 c κs = search needs
-
-returns-4 : tie.Need-returns-4 Inv-loop μ-loop Inv-loop2 μ-loop2
-returns-4 c =
-    let r = c .before .before .before .before .before in
-    let z : r .loop2 .i ≡ 0 = omega arith in
-    let t = sym (c .before .before .less2 .ensures) ∙ c .before .if4 .left in
-    let first = getD (map r .edges) 0 noHint in
-    let m : taken r 0 ≡ line first (first .scale) (at r) = rw t in
-    c .on-line3 .ensures ∙ sym (mapped r ∙ ap (taken r) z ∙ m)
+    on (c .before .before .before .before) (sym (c .before .if3 .left) ∙ c .before .before .less .ensures)
+    (c .on-line2 .ensures)
 
 pub transform-spec : {M : Type 1} → statement M
 transform-spec =
@@ -215,8 +167,6 @@ transform-spec =
     (tie.spec
     Inv-loop
     μ-loop
-    Inv-loop2
-    μ-loop2
     least-requires
     mul-requires
     returns
@@ -229,18 +179,10 @@ transform-spec =
     add-i
     loop-less
     loop-again
-    loop2-holds
     mul-edge
     element-copy-out-edge
     less-requires
     on-line-requires
     returns-2
-    sub-i
-    loop2-less
-    loop2-again
-    element-copy-out-first
-    less-requires-2
     on-line-requires-2
-    returns-3
-    on-line-requires-3
-    returns-4)
+    returns-3)
