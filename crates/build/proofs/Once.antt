@@ -16,7 +16,9 @@ use Rattle.stems.specs.declared.edge.StemHint.{StemHint}
 use Rattle.stems.specs.declared.edge.Side.the-variants.{Bottom, Top}
 use Rattle.stems.specs.declared.edge.Hint.{Hint}
 use Rattle.stems.specs.Mask.{isActive, cleared}
-use Rattle.stems.specs.Edge.{noHint, topK, isValid, isTop}
+use Rattle.stems.specs.declared.edge.Shape.{Shape}
+use Rattle.stems.specs.declared.edge.Shape.the-variants.{BottomGhost, TopGhost, Pair}
+use Rattle.stems.specs.Edge.{noHint, topK, isTop, shapeOf}
 use Rattle.stems.proofs.Masks.{clear-off, clear-keeps}
 use Rattle.stems.proofs.Edges.{setup-index}
 use Rattle.zones.specs.declared.state.HintState.{HintState}
@@ -24,7 +26,7 @@ use Rattle.hintmap.specs.declared.map.HintMap.{HintMap}
 use Rattle.hintmap.specs.declared.insert.Edges.{Edges}
 use Rattle.hintmap.specs.declared.insert.Edges.the-variants.{One, Two}
 use Rattle.hintmap.specs.Map.{newMap, view}
-use Rattle.hintmap.specs.Insert.{chosenBy, chosen, firstEdge, edgesOf, again, placedBy, putEdges, placeFor, placedFor}
+use Rattle.hintmap.specs.Insert.{chosen, firstEdge, edgesOf, again, placedBy, putEdges, placeFor, placedFor}
 use Rattle.hintmap.specs.Insert.{insertIn}
 use Rattle.hintmap.specs.WholeStems.{Made}
 use Rattle.hintmap.proofs.Outcome.{Clear, by-outcome, view-placed}
@@ -159,15 +161,13 @@ module _ (top : Bool) (k : ℕ) where
       go false =
           rw (no-bears false k t (λ w. false≢true (sym (w .side) ∙ ap topK (s .top)))) (more-one (bearsBy false k b))
 
-  -- two edges that are not counted add nothing
-  tally-chosen : (b t : Hint) → (Bears top k b → ⊥) → (Bears top k t → ⊥) → tally top k (edgesOf (chosen b t)) ≡ 0
+  -- two edges that are not counted add nothing, whatever a shape has of them
+  tally-chosen : (h : Shape) (b t : Hint) → (Bears top k b → ⊥) → (Bears top k t → ⊥) →
+      tally top k (edgesOf (chosen h b t)) ≡ 0
   unfolding tally chosen
-  tally-chosen b t p q = go (isValid b) (isValid t)
-    where
-      go : (x y : Bool) → tally top k (edgesOf (chosenBy x y b t)) ≡ 0
-      go false y = rw (no-bears top k t q)
-      go true false = rw (no-bears top k b p)
-      go true true = rw (no-bears top k b p, no-bears top k t q)
+  tally-chosen (BottomGhost h) b t p q = rw (no-bears top k b p)
+  tally-chosen (TopGhost h) b t p q = rw (no-bears top k t q)
+  tally-chosen (Pair l h) b t p q = rw (no-bears top k b p, no-bears top k t q)
 
   -- the adjustment leaves the count
   tally-still : (n : ℕ) (es : List Hint) → tally top k (take n (map still es)) ≡ tally top k (take n es)
@@ -196,12 +196,12 @@ module _ (Q R : ℕ → Type 0) (m : HintMap) (has : Places Q m) where
   places-fewer f = record { order = has .order; most = has .most; none = λ top k r. has .none top k (f k r) }
 
   -- with the edges of a stem that had none
-  places-more : (i : ℕ) (b t : Hint) → b .index ≡ i → t .index ≡ i → Made (chosen b t) → Q i → (R i → ⊥) →
+  places-more : (i : ℕ) (h : Shape) (b t : Hint) → b .index ≡ i → t .index ≡ i → Made (chosen h b t) → Q i → (R i → ⊥) →
       ((k : ℕ) → (k ≡ i → ⊥) → R k → Q k) →
-      (initial : HintMap) (given : Bool) → Places R (insertIn m (chosen b t) initial given)
-  places-more i b t p q made new old keep initial given =
+      (initial : HintMap) (given : Bool) → Places R (insertIn m (chosen h b t) initial given)
+  places-more i h b t p q made new old keep initial given =
       record {
-        order = insert-good m (chosen b t) initial given made (has .order);
+        order = insert-good m (chosen h b t) initial given made (has .order);
         most = λ top k. go top k (eqb k i) refl;
         none = λ top k r.
             let d : k ≡ i → ⊥ = λ w. old (rw w at r) in
@@ -209,26 +209,26 @@ module _ (Q R : ℕ → Type 0) (m : HintMap) (has : Places Q m) where
       }
     where
       add : (top : Bool) (k : ℕ) →
-          tally top k (view (insertIn m (chosen b t) initial given)) ≤ tally top k (view m) + tally top k
-          (edgesOf (chosen b t))
-      add top k = tally-insert top k m (chosen b t) initial given (has .order)
+          tally top k (view (insertIn m (chosen h b t) initial given)) ≤ tally top k (view m) + tally top k
+          (edgesOf (chosen h b t))
+      add top k = tally-insert top k m (chosen h b t) initial given (has .order)
 
-      other : (top : Bool) (k : ℕ) → (k ≡ i → ⊥) → tally top k (edgesOf (chosen b t)) ≡ 0
-      other top k d = tally-chosen top k b t (λ w. d (sym (w .own .number) ∙ p)) (λ w. d (sym (w .own .number) ∙ q))
+      other : (top : Bool) (k : ℕ) → (k ≡ i → ⊥) → tally top k (edgesOf (chosen h b t)) ≡ 0
+      other top k d = tally-chosen top k h b t (λ w. d (sym (w .own .number) ∙ p)) (λ w. d (sym (w .own .number) ∙ q))
 
       go : (top : Bool) (k : ℕ) (x : Bool) → eqb k i ≡ x →
-          tally top k (view (insertIn m (chosen b t) initial given)) ≤ 1
+          tally top k (view (insertIn m (chosen h b t) initial given)) ≤ 1
       go top k true e =
-          omega (arith, add top k, tally-made top k (chosen b t) made, has .none top k (rw (eqb-true k i e) new))
+          omega (arith, add top k, tally-made top k (chosen h b t) made, has .none top k (rw (eqb-true k i e) new))
       go top k false e = omega (arith, add top k, other top k (eqb-false k i e), has .most top k)
 
 -- the em box is of no stem
 boxed-none : (wanted : Bool) (initial : HintMap) (given : Bool) (s : Fixed) (top : Bool) (k : ℕ) →
     tally top k (view (emBoxed wanted initial given (newMap s))) ≡ 0
-unfolding tally emBoxed emBottom emTop chosen
+unfolding tally emBoxed emBottom emTop
 boxed-none true initial given s top k =
-    let low = chosen (emBottom s) noHint in
-    let high = chosen noHint (emTop s) in
+    let low = One (emBottom s) in
+    let high = One (emTop s) in
     let one = insertIn (newMap s) low initial given in
     let a : tally top k (edgesOf low) ≡ 0 = refl in
     let b : tally top k (edgesOf high) ≡ 0 = refl in
@@ -252,7 +252,7 @@ locked-places st initial given i x p has =
     locked-cases initial p i x (λ (q : Placed). Places (Waits (suc i) (q .rest)) (q .map))
     (places-fewer (Waits i (p .rest)) (Waits (suc i) (p .rest)) (p .map) has (λ k. ⊎-elim (λ h. inl (omega arith)) inr))
     st given
-    (λ e. places-more (Waits i (p .rest)) (Waits (suc i) (cleared (p .rest) i)) (p .map) has i _ _
+    (λ e. places-more (Waits i (p .rest)) (Waits (suc i) (cleared (p .rest) i)) (p .map) has i (shapeOf x) _ _
     (sym (prepared-like st x i .0 .index) ∙ setup-index x i (st .scale) Bottom)
     (sym (prepared-like st x i .1 .index) ∙ setup-index x i (st .scale) Top)
     (made-prepared st x i) (inl (le-refl i))
@@ -275,7 +275,7 @@ free-places n st initial i x p l has =
     free-cases initial p i x (λ (q : Placed). Places (Awaits n (suc i) (q .rest)) (q .map))
     (places-fewer (Awaits n i (p .rest)) (Awaits n (suc i) (p .rest)) (p .map) has waits)
     st
-    (λ e. places-more (Awaits n i (p .rest)) (Awaits n (suc i) (p .rest)) (p .map) has i _ _
+    (λ e. places-more (Awaits n i (p .rest)) (Awaits n (suc i) (p .rest)) (p .map) has i (shapeOf x) _ _
     (setup-index x i (st .scale) Bottom) (setup-index x i (st .scale) Top) (made-setup x i (st .scale))
     (inr (le-refl i, e)) (⊎-elim (λ h. omega arith) (λ h. omega arith)) (λ k d. waits k) initial true)
 

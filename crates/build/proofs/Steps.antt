@@ -13,7 +13,7 @@ use Rattle.stems.specs.declared.edge.Side.{Side}
 use Rattle.stems.specs.declared.edge.Side.the-variants.{Bottom, Top}
 use Rattle.stems.specs.declared.edge.Hint.{Hint}
 use Rattle.stems.specs.Mask.{isActive, cleared}
-use Rattle.stems.specs.Edge.{noHint, setupOf}
+use Rattle.stems.specs.Edge.{shapeOf, setupOf}
 use Rattle.zones.specs.declared.state.HintState.{HintState}
 use Rattle.zones.specs.declared.capture.Held.{Held}
 use Rattle.zones.specs.declared.capture.Held.the-variants.{By, Free}
@@ -22,6 +22,7 @@ use Rattle.zones.specs.Capture.{firstHolding, lifted, capturedBy, captureOf}
 use Rattle.zones.proofs.Holding.{capture-keeps}
 use Rattle.hintmap.specs.declared.map.HintMap.{HintMap}
 use Rattle.hintmap.specs.declared.insert.Edges.{Edges}
+use Rattle.hintmap.specs.declared.insert.Edges.the-variants.{One}
 use Rattle.hintmap.specs.Insert.{chosen, insertIn}
 use Rattle.hintmap.specs.WholeStems.{Made, Like}
 use Rattle.hintmap.proofs.Alike.{like-refl}
@@ -59,20 +60,19 @@ module _ (st : HintState) (x : StemHint) (i : ℕ) where
       go false l = l
 
   -- so they are a single edge or one stem's two
-  pub made-prepared : Made (chosen (preparedOf st x i .bottom) (preparedOf st x i .top))
+  pub made-prepared : Made (chosen (shapeOf x) (preparedOf st x i .bottom) (preparedOf st x i .top))
   made-prepared = made-like x i (st .scale) _ _ (prepared-like .0) (prepared-like .1)
 
 -- the em box's ghosts and the baseline's are single edges
-pub made-box-bottom : (s : Fixed) → Made (chosen (emBottom s) noHint)
-unfolding chosen emBottom
+pub made-box-bottom : (s : Fixed) → Made (One (emBottom s))
+unfolding emBottom
 made-box-bottom s = made-ghost (emBottom s) (inl refl)
 
-pub made-box-top : (s : Fixed) → Made (chosen noHint (emTop s))
-unfolding chosen emTop
+pub made-box-top : (s : Fixed) → Made (One (emTop s))
+unfolding emTop
 made-box-top s = made-ghost (emTop s) (inr refl)
 
-pub made-baseline : (s : Fixed) → Made (chosen (ghostAt GhostBottom ZERO ZERO s) noHint)
-unfolding chosen
+pub made-baseline : (s : Fixed) → Made (One (ghostAt GhostBottom ZERO ZERO s))
 made-baseline s = made-ghost (ghostAt GhostBottom ZERO ZERO s) (inl refl)
 
 -- ---- what a turn comes to
@@ -81,15 +81,15 @@ module _ (initial : HintMap) (p : Placed) (i : ℕ) (x : StemHint) (P : Placed �
   pub locked-cases : (st : HintState) (given : Bool) →
       (isActive (p .rest) i ≡ true →
       P (record {
-        map = insertIn (p .map) (chosen (preparedOf st x i .bottom) (preparedOf st x i .top)) initial
-            given;
+        map = insertIn (p .map) (chosen (shapeOf x) (preparedOf st x i .bottom) (preparedOf st x i .top))
+            initial given;
         rest = cleared (p .rest) i;
       })) →
       P (lockedTurn st initial given p i x)
   unfolding lockedTurn
   locked-cases st given f = go (isActive (p .rest) i) refl
     where
-      put : isActive (p .rest) i ≡ true → (c : Bool) → P (putBy c initial given p i (preparedOf st x i))
+      put : isActive (p .rest) i ≡ true → (c : Bool) → P (putBy c initial given p i (shapeOf x) (preparedOf st x i))
       put e true = f e
       put e false = same
 
@@ -101,8 +101,9 @@ module _ (initial : HintMap) (p : Placed) (i : ℕ) (x : StemHint) (P : Placed �
   pub free-cases : (st : HintState) →
       (isActive (p .rest) i ≡ true →
       P (record {
-        map = insertIn (p .map) (chosen (setupOf x i (st .scale) Bottom) (setupOf x i (st .scale) Top))
-            initial true;
+        map = insertIn (p .map)
+            (chosen (shapeOf x) (setupOf x i (st .scale) Bottom) (setupOf x i (st .scale) Top)) initial
+            true;
         rest = p .rest;
       })) →
       P (freeTurn st initial p i x)

@@ -52,8 +52,10 @@ pub(crate) fn with_em_box(map: HintMap, wanted: bool, initial: HintMap, given: b
 {
     if wanted {
         let scale = map.scale;
-        let one = map.insert(Edges::One(em_bottom(scale)), initial, given);
-        return one.insert(Edges::One(em_top(scale)), initial, given);
+        let bottom = Edges::One(em_bottom(scale));
+        let top = Edges::One(em_top(scale));
+        let one = map.insert(bottom, initial, given);
+        return one.insert(top, initial, given);
     }
     map
 }

@@ -1,7 +1,12 @@
 -- `with_baseline` meets its contract, by those of its calls. Assumes nothing.
-use mathlib.Core.Path.{sym}
-use Rattle.build.specs.Ghosts.{baselined}
+use mathlib.Core.Path.{sym, subst}
 use borrow.Author.Needs.{needs}
+use Rattle.stems.specs.declared.edge.Hint.{Hint}
+use Rattle.hintmap.specs.declared.insert.Edges.the-variants.{One}
+use Rattle.hintmap.specs.Insert.{Valid}
+use Rattle.hintmap.proofs.Made.{made-valid}
+use Rattle.build.specs.Ghosts.{baselined}
+use Rattle.build.proofs.Steps.{made-baseline}
 use Rattle.build.proofs.ghosts.with_baseline.Statement.{statement}
 use Rattle.build.proofs.ghosts.with_baseline.Tie as tie
 
@@ -11,22 +16,15 @@ is-uncovered-requires c κs = search needs
 ghost-at-requires : tie.Need-ghost-at-requires
 ghost-at-requires c κs = search needs
 
-none-requires : tie.Need-none-requires
-none-requires c κs = search needs
-
-choose-requires : tie.Need-choose-requires
-choose-requires c κs = search needs
-
 insert-requires : tie.Need-insert-requires
-insert-requires c κs = search needs
+insert-requires c κs =
+    subst (λ (e : Hint). Valid (One e)) (sym (c .ghost-at .ensures)) (made-valid _ (made-baseline _))
 
 returns : tie.Need-returns
 unfolding baselined
 returns c =
-    let t = c .before .before .before .before .before in
-    rw (sym (t .before .is-uncovered .ensures), t .if1 .taken)
-    (rw (c .before .choose .ensures, c .before .before .none .ensures, c .before .before .before .ghost-at .ensures) at
-    (c .insert .ensures))
+    let t = c .before .before .before in
+    rw (sym (t .before .is-uncovered .ensures), t .if1 .taken) (rw (c .before .ghost-at .ensures) at (c .insert .ensures))
 
 returns-2 : tie.Need-returns-2
 unfolding baselined
@@ -34,12 +32,4 @@ returns-2 c = rw (sym (c .before .is-uncovered .ensures), c .if1 .left)
 
 pub with-baseline-spec : {M : Type 1} → statement M
 with-baseline-spec =
-    tie.close
-    (tie.spec
-    is-uncovered-requires
-    ghost-at-requires
-    none-requires
-    choose-requires
-    insert-requires
-    returns
-    returns-2)
+    tie.close (tie.spec is-uncovered-requires ghost-at-requires insert-requires returns returns-2)

@@ -2,7 +2,7 @@
 -- `i` on, give what all give. What each way through a turn leaves is what the definition's turn
 -- gives. The measure is what is left of the count, which is cut to the room for stems. Assumes
 -- nothing.
-use mathlib.Core.Path.{_≡_, sym, ap, _∙_}
+use mathlib.Core.Path.{_≡_, sym, ap, subst, _∙_}
 use mathlib.Core.List.{List}
 use Prim.Native.Nat.{ℕ, _+_, _-_, _≤_, _<_}
 use native.Mathlib.Omega.{arith}
@@ -11,6 +11,8 @@ use borrow.Author.Needs.{needs}
 use borrow.Author.Tests.{not-true, not-false}
 use Rattle.fixed.proofs.Counts.{take-least}
 use Rattle.stems.specs.declared.edge.StemHint.{StemHint}
+use Rattle.hintmap.specs.Insert.{Valid}
+use Rattle.hintmap.proofs.Made.{made-valid, made-setup}
 use Rattle.build.specs.declared.place.Placed.{Placed}
 use Rattle.build.specs.Place.{declaredIn, freeTurn, freeTurns}
 use Rattle.build.specs.Build.{noStem}
@@ -108,14 +110,20 @@ cast-setup-2 c = search needs
 setup-requires-2 : tie.Need-setup-requires-2 Inv-loop μ-loop
 setup-requires-2 c κs = search needs
 
+shape-requires : tie.Need-shape-requires Inv-loop μ-loop
+shape-requires c κs = search needs
+
 choose-requires : tie.Need-choose-requires Inv-loop μ-loop
 choose-requires c κs = search needs
 
 insert-requires : tie.Need-insert-requires Inv-loop μ-loop
-insert-requires c κs = search needs
+insert-requires c κs =
+    let s = c .before .before in
+    subst Valid (sym (simp (c .before .shape .ensures, s .before .setup .ensures, s .setup2 .ensures) at
+    (c .choose .ensures))) (made-valid _ (made-setup _ _ _))
 
 add-i-2 : tie.Need-add-i-2 Inv-loop μ-loop
-add-i-2 c = omega (arith, inside (c .before .before .before .before .before .before .before))
+add-i-2 c = omega (arith, inside (c .before .before .before .before .before .before .before .before))
 
 loop-less-2 : tie.Need-loop-less-2 Inv-loop μ-loop
 loop-less-2 c = search needs
@@ -123,7 +131,7 @@ loop-less-2 c = search needs
 loop-again-2 : tie.Need-loop-again-2 Inv-loop μ-loop
 unfolding freeTurn
 loop-again-2 c =
-    let s = c .before .before in
+    let s = c .before .before .before in
     let e = s .before .before .before in
     let g = e .before in
     again (g .before) _ (simp (
@@ -131,6 +139,7 @@ loop-again-2 c =
       not-false (g .get .result) (e .if1 .left),
       sym (s .before .setup .ensures),
       sym (s .setup2 .ensures),
+      sym (c .before .before .shape .ensures),
       sym (c .before .choose .ensures),
       sym (c .insert .ensures),
     ))
@@ -161,6 +170,7 @@ place-free-spec =
     setup-requires
     cast-setup-2
     setup-requires-2
+    shape-requires
     choose-requires
     insert-requires
     add-i-2

@@ -2,7 +2,7 @@
 -- `i` on, give what all give. What each way through a turn leaves is what the definition's turn
 -- gives. The measure is what is left of the count, which is cut to the room for stems. Assumes
 -- nothing.
-use mathlib.Core.Path.{_≡_, sym, ap, _∙_}
+use mathlib.Core.Path.{_≡_, sym, ap, subst, _∙_}
 use mathlib.Core.List.{List}
 use Prim.Native.Nat.{ℕ, _+_, _-_, _≤_, _<_}
 use native.Mathlib.Omega.{arith}
@@ -11,9 +11,12 @@ use borrow.Author.Needs.{needs}
 use borrow.Author.Tests.{not-true, not-false}
 use Rattle.fixed.proofs.Counts.{take-least}
 use Rattle.stems.specs.declared.edge.StemHint.{StemHint}
+use Rattle.hintmap.specs.Insert.{Valid}
+use Rattle.hintmap.proofs.Made.{made-valid}
 use Rattle.build.specs.declared.place.Placed.{Placed}
 use Rattle.build.specs.Place.{declaredIn, lockedTurn, lockedTurns}
 use Rattle.build.specs.Build.{noStem}
+use Rattle.build.proofs.Steps.{made-prepared}
 use Rattle.build.proofs.Rounds.{Left, locked-round, left-more, left-ends}
 use Rattle.build.proofs.place.place_locked.Statement.{statement}
 use Rattle.build.proofs.place.place_locked.Tie as tie
@@ -121,18 +124,27 @@ loop-again-2 c =
       not-true (r .prepared .result .captured) (c .if2 .taken),
     ))
 
+shape-requires : tie.Need-shape-requires Inv-loop μ-loop
+shape-requires c κs = search needs
+
 choose-requires : tie.Need-choose-requires Inv-loop μ-loop
 choose-requires c κs = search needs
 
 insert-requires : tie.Need-insert-requires Inv-loop μ-loop
-insert-requires c κs = search needs
+insert-requires c κs =
+    let r = c .before .before .before .before .before .before in
+    subst Valid (sym (simp (c .before .shape .ensures, r .prepared .ensures) at (c .choose .ensures)))
+    (made-valid _ (made-prepared _ _ _))
 
 clear-requires : tie.Need-clear-requires Inv-loop μ-loop
 clear-requires c κs = search needs
 
 add-i-3 : tie.Need-add-i-3 Inv-loop μ-loop
 add-i-3 c =
-    omega (arith, inside (c .before .before .before .before .before .before .before .before .before .before .before))
+    omega (
+      arith,
+      inside (c .before .before .before .before .before .before .before .before .before .before .before .before),
+    )
 
 loop-less-3 : tie.Need-loop-less-3 Inv-loop μ-loop
 loop-less-3 c = search needs
@@ -141,7 +153,7 @@ loop-again-3 : tie.Need-loop-again-3 Inv-loop μ-loop
 unfolding lockedTurn
 loop-again-3 c =
     let o = c .before .before in
-    let f = o .before .before .before in
+    let f = o .before .before .before .before in
     let r = f .before .before in
     let e = r .before .before in
     let g = e .before in
@@ -150,6 +162,7 @@ loop-again-3 c =
       not-false (g .get .result) (e .if1 .left),
       sym (r .prepared .ensures),
       not-false (r .prepared .result .captured) (f .if2 .left),
+      sym (o .before .shape .ensures),
       sym (o .choose .ensures),
       sym (c .before .insert .ensures),
       sym (c .clear .ensures),
@@ -182,6 +195,7 @@ place-locked-spec =
     add-i-2
     loop-less-2
     loop-again-2
+    shape-requires
     choose-requires
     insert-requires
     clear-requires
