@@ -13,3 +13,4 @@ pub mod WholeRecords
 pub mod Scales
 pub mod Listed
 pub mod Sources
+pub mod Branches

@@ -8,9 +8,9 @@ use lib.Signed.{_≤ℤ_, _<ℤ_}
 use Rattle.fixed.specs.declared.Fixed.{Fixed}
 use Rattle.fixed.specs.Fixed.{ZERO, addF, subF, divF, fractF}
 use Rattle.stems.specs.declared.edge.Kind.the-variants.{GhostBottom}
-use Rattle.stems.specs.Edge.{noHint}
 use Rattle.hintmap.specs.declared.map.HintMap.{HintMap}
-use Rattle.hintmap.specs.Insert.{chosen, insertIn}
+use Rattle.hintmap.specs.declared.insert.Edges.the-variants.{One}
+use Rattle.hintmap.specs.Insert.{insertIn}
 use Rattle.build.specs.Ghosts.{ghostAt}
 use Rattle.theorems.specs.Reached.{edge, height}
 
@@ -52,7 +52,7 @@ pub data Uncovered (m : HintMap) : Type 0 where
 
 -- a locked synthetic bottom ghost at height 0 and device 0, inserted by the rule
 abbrev pub withBaseline : HintMap → HintMap
-withBaseline m = insertIn m (chosen (ghostAt GhostBottom ZERO ZERO (m .scale)) noHint) m false
+withBaseline m = insertIn m (One (ghostAt GhostBottom ZERO ZERO (m .scale))) m false
 
 -- it is put in exactly if no edge covers it
 pub record Baselined (before after : HintMap) : Type 0 where

@@ -5,3 +5,4 @@ pub mod Lone
 pub mod Fitting
 pub mod WholeRecords
 pub mod Listed
+pub mod Branches
