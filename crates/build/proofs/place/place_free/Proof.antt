@@ -2,7 +2,7 @@
 -- `i` on, give what all give. What each way through a turn leaves is what the definition's turn
 -- gives. The measure is what is left of the count, which is cut to the room for stems. Assumes
 -- nothing.
-use mathlib.Core.Path.{_≡_, sym, ap, subst, _∙_}
+use mathlib.Core.Path.{_≡_, sym, ap, _∙_}
 use mathlib.Core.List.{List}
 use Prim.Native.Nat.{ℕ, _+_, _-_, _≤_, _<_}
 use native.Mathlib.Omega.{arith}
@@ -11,8 +11,7 @@ use borrow.Author.Needs.{needs}
 use borrow.Author.Tests.{not-true, not-false}
 use Rattle.fixed.proofs.Counts.{take-least}
 use Rattle.stems.specs.declared.edge.StemHint.{StemHint}
-use Rattle.hintmap.specs.Insert.{Valid}
-use Rattle.hintmap.proofs.Made.{made-valid, made-setup}
+use Rattle.hintmap.proofs.Made.{valid-setup}
 use Rattle.build.specs.declared.place.Placed.{Placed}
 use Rattle.build.specs.Place.{declaredIn, freeTurn, freeTurns}
 use Rattle.build.specs.Build.{noStem}
@@ -119,8 +118,7 @@ choose-requires c κs = search needs
 insert-requires : tie.Need-insert-requires Inv-loop μ-loop
 insert-requires c κs =
     let s = c .before .before in
-    subst Valid (sym (simp (c .before .shape .ensures, s .before .setup .ensures, s .setup2 .ensures) at
-    (c .choose .ensures))) (made-valid _ (made-setup _ _ _))
+    valid-setup _ _ _ (c .before .shape .ensures) (s .before .setup .ensures) (s .setup2 .ensures) (c .choose .ensures)
 
 add-i-2 : tie.Need-add-i-2 Inv-loop μ-loop
 add-i-2 c = omega (arith, inside (c .before .before .before .before .before .before .before .before))
