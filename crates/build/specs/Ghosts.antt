@@ -2,10 +2,10 @@
 use mathlib.Core.Bool.{Bool, true, false, _||_}
 use Prim.Native.Nat.{_-_}
 use lib.Dec.{eqb}
-use lib.IntN.{pos, negℤ, _+ℤ_, _-ℤ_}
+use lib.IntN.{pos, _+ℤ_, _-ℤ_}
 use lib.ListN.{getD}
 use Rattle.fixed.specs.declared.Fixed.{Fixed}
-use Rattle.fixed.specs.Fixed.{fromBits, whole, ZERO, HALF, addF, subF, mulF, roundF, lessF}
+use Rattle.fixed.specs.Fixed.{fromBits, ZERO, HALF, addF, subF, mulF, roundF, lessF}
 use Rattle.stems.specs.declared.edge.Kind.{Kind}
 use Rattle.stems.specs.declared.edge.Kind.the-variants.{GhostBottom, GhostTop}
 use Rattle.stems.specs.declared.edge.Hint.{Hint}

@@ -22,7 +22,7 @@ use Rattle.stems.specs.declared.edge.Hint.{Hint}
 use Rattle.stems.specs.declared.edge.Shape.{Shape}
 use Rattle.stems.specs.declared.edge.Shape.the-variants.{BottomGhost, TopGhost, Pair}
 use Rattle.stems.specs.Mask.{allActive, isActive}
-use Rattle.stems.specs.Edge.{noHint, validK, shapeOf, edgeOf, setupOf}
+use Rattle.stems.specs.Edge.{noHint, shapeOf, edgeOf, setupOf}
 use Rattle.stems.proofs.Masks.{clear-off, clear-keeps}
 use Rattle.stems.proofs.Edges.{setup-kind}
 use Rattle.zones.specs.declared.state.HintState.{HintState}
@@ -37,7 +37,7 @@ use Rattle.build.specs.declared.place.Placed.{Placed}
 use Rattle.build.specs.Ghosts.{ghostAt, emBottom, emTop, emBoxed, uncovered, baselineBy, baselined}
 use Rattle.build.specs.Place.{declaredIn, preparedOf, putBy, lockedBy, lockedTurn, lockedTurns, freeBy, freeTurn}
 use Rattle.build.specs.Place.{freeTurns}
-use Rattle.build.specs.Build.{boxedMap, initialPlaced, lockedPlaced, placedOf}
+use Rattle.build.specs.Build.{boxedMap, initialPlaced, lockedPlaced}
 use Rattle.build.proofs.Steps.{prepared-like, locked-cases}
 use Rattle.build.proofs.Rounds.{locked-round, round-keeps}
 use Rattle.hints.specs.declared.drawing.Drawing.{Drawing}
@@ -45,8 +45,8 @@ use Rattle.run.specs.Run.{Asked}
 use Rattle.script.specs.Script.{zonesOf, callsIn, drawingIn}
 use Rattle.theorems.specs.Demand1.{Checked}
 use Rattle.theorems.specs.Reached.{Reached, currentMap}
-use Rattle.theorems.specs.Branches.{up, down, mappedAt, NoWayBack, Handed, OneValid, EachValid, takenOf, inserted}
-use Rattle.theorems.specs.Branches.{Inserts, handedIf, boxHanded, lockedHanded, freeHanded, baseHanded}
+use Rattle.theorems.specs.Branches.{up, down, mappedAt, NoWayBack, Handed, handed, OneValid, EachValid, takenOf}
+use Rattle.theorems.specs.Branches.{inserted, Inserts, handedIf, lockedHanded, freeHanded, baseHanded}
 use Rattle.theorems.specs.Branches.{InitialInserts, BuiltInserts, begun, NeverEntered}
 use Rattle.theorems.proofs.Demand3.{reached}
 
@@ -113,14 +113,14 @@ record Fits (h : Handed) (e : Edges) : Type 0 where
   one : OneValid h
 
 by-shape : (h : Shape) (i : ℕ) (s : Fixed) (b t : Hint) → b .kind ≡ edgeOf h Bottom i s .kind →
-    t .kind ≡ edgeOf h Top i s .kind → Fits (record { bottom = b; top = t }) (chosen h b t)
+    t .kind ≡ edgeOf h Top i s .kind → Fits (handed b t) (chosen h b t)
 unfolding edgeOf chosen
 by-shape (BottomGhost h) i s b t p q = record { taken = rw (p, q); one = rw p }
 by-shape (TopGhost h) i s b t p q = record { taken = rw (p, q); one = rw (p, q) }
 by-shape (Pair l h) i s b t p q = record { taken = rw (p, q); one = rw p }
 
-fits-like : (x : StemHint) (i : ℕ) (s : Fixed) (b t : Hint) → Like (setupOf x i s Bottom) b → Like (setupOf x i s Top) t →
-    Fits (record { bottom = b; top = t }) (chosen (shapeOf x) b t)
+fits-like : (x : StemHint) (i : ℕ) (s : Fixed) (b t : Hint) → Like (setupOf x i s Bottom) b →
+    Like (setupOf x i s Top) t → Fits (handed b t) (chosen (shapeOf x) b t)
 fits-like x i s b t p q =
     by-shape (shapeOf x) i s b t (sym (p .kind) ∙ setup-kind x i s Bottom) (sym (q .kind) ∙ setup-kind x i s Top)
 
@@ -166,7 +166,7 @@ module _ (initial : HintMap) (given : Bool) where
     -- captured or not
     record Turned (i : ℕ) (x : StemHint) (p q : Placed) (active captured : Bool) : Type 0 where
       map : Inserts initial given (handedIf (active && captured)
-          (record { bottom = preparedOf st x i .bottom; top = preparedOf st x i .top })) (p .map) (q .map)
+          (handed (preparedOf st x i .bottom) (preparedOf st x i .top))) (p .map) (q .map)
       rest : Agrees (suc i) (q .rest)
       here : isActive (q .rest) i ≡ (active && not captured)
 
@@ -234,7 +234,7 @@ module _ (initial : HintMap) (given : Bool) where
 -- the second round inserts the active stems that are left, in order
 module _ (st : HintState) (mask : HintMask) (initial : HintMap) where
   abbrev own : ℕ → StemHint → Handed
-  own i x = record { bottom = setupOf x i (st .scale) Bottom; top = setupOf x i (st .scale) Top }
+  own i x = handed (setupOf x i (st .scale) Bottom) (setupOf x i (st .scale) Top)
 
   free-turned : (i : ℕ) (x : StemHint) (p : Placed) (b : Bool) →
       Inserts initial true (handedIf b (own i x)) (p .map) (freeBy b st initial p i x .map) ×
@@ -258,8 +258,8 @@ module _ (st : HintState) (mask : HintMask) (initial : HintMap) where
 module _ (initial : HintMap) (given : Bool) (m : HintMap) where
   box-inserts : (wanted : Bool) →
       Inserts initial given
-      (handedIf wanted (record { bottom = emBottom (m .scale); top = noHint }) ++
-      handedIf wanted (record { bottom = noHint; top = emTop (m .scale) })) m (emBoxed wanted initial given m)
+      (handedIf wanted (handed (emBottom (m .scale)) noHint) ++
+      handedIf wanted (handed noHint (emTop (m .scale)))) m (emBoxed wanted initial given m)
   unfolding emBoxed emBottom emTop inserted EachValid
   box-inserts true = record { made = refl; valid = (refl, (refl, tt)) }
   box-inserts false = record { made = refl; valid = tt }
@@ -270,7 +270,7 @@ unfolding baselined inserted EachValid insertIn outcomeOf
 base-inserts initial m = go (uncovered m)
   where
     go : (b : Bool) →
-        Inserts initial false (handedIf b (record { bottom = ghostAt GhostBottom ZERO ZERO (m .scale); top = noHint })) m
+        Inserts initial false (handedIf b (handed (ghostAt GhostBottom ZERO ZERO (m .scale)) noHint)) m
         (baselineBy b m)
     go true = record { made = refl; valid = (refl, tt) }
     go false = record { made = refl; valid = tt }
@@ -285,7 +285,8 @@ initial-inserts st ss =
     (record { map = boxedMap st new false; rest = allActive }) (λ k l. refl))
     (base-inserts new (initialPlaced st ss .map)))
 
-pub built-inserts : (st : HintState) (mask : HintMask) (initial : HintMap) (ss : Stems) → BuiltInserts st mask initial ss
+pub built-inserts : (st : HintState) (mask : HintMask) (initial : HintMap) (ss : Stems) →
+    BuiltInserts st mask initial ss
 built-inserts st mask initial ss =
     let p : Placed = record { map = boxedMap st initial true; rest = mask } in
     inserts-then initial true (box-inserts initial true (newMap (st .scale)) (st .«do_em_box_hints»))

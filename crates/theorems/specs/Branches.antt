@@ -58,6 +58,9 @@ pub record Handed : Type 0 where
   pub bottom : Hint
   pub top : Hint
 
+abbrev pub handed : Hint → Hint → Handed
+handed b t = record { bottom = b; top = t }
+
 -- at least one edge is valid
 abbrev pub OneValid : Handed → Type 0
 OneValid h = (isValid (h .bottom) || isValid (h .top)) ≡ true
@@ -92,27 +95,27 @@ handedIf b h = cond b (h ∷ []) []
 -- the em box's two, where it is asked for
 abbrev pub boxHanded : HintState → List Handed
 boxHanded st =
-    handedIf (st .«do_em_box_hints») (record { bottom = emBottom (st .scale); top = noHint }) ++
-    handedIf (st .«do_em_box_hints») (record { bottom = noHint; top = emTop (st .scale) })
+    handedIf (st .«do_em_box_hints») (handed (emBottom (st .scale)) noHint) ++
+    handedIf (st .«do_em_box_hints») (handed noHint (emTop (st .scale)))
 
 -- those of the active stems that are locked or captured, of which the first is number i
 unfoldable pub lockedHanded : HintState → HintMask → ℕ → List StemHint → List Handed
 lockedHanded st mask i [] = []
 lockedHanded st mask i (x ∷ xs) =
     handedIf (isActive mask i && preparedOf st x i .captured)
-    (record { bottom = preparedOf st x i .bottom; top = preparedOf st x i .top }) ++ lockedHanded st mask (suc i) xs
+    (handed (preparedOf st x i .bottom) (preparedOf st x i .top)) ++ lockedHanded st mask (suc i) xs
 
 -- those of the active stems that are left
 unfoldable pub freeHanded : HintState → HintMask → ℕ → List StemHint → List Handed
 freeHanded st mask i [] = []
 freeHanded st mask i (x ∷ xs) =
     handedIf (isActive mask i && not (preparedOf st x i .captured))
-    (record { bottom = setupOf x i (st .scale) Bottom; top = setupOf x i (st .scale) Top }) ++
+    (handed (setupOf x i (st .scale) Bottom) (setupOf x i (st .scale) Top)) ++
     freeHanded st mask (suc i) xs
 
 -- the baseline's, where no edge of a map covers it
 abbrev pub baseHanded : HintMap → List Handed
-baseHanded m = handedIf (uncovered m) (record { bottom = ghostAt GhostBottom ZERO ZERO (m .scale); top = noHint })
+baseHanded m = handedIf (uncovered m) (handed (ghostAt GhostBottom ZERO ZERO (m .scale)) noHint)
 
 -- what the build of the initial map adjusts comes from a new map by these
 abbrev pub InitialInserts : HintState → Stems → Type 0

@@ -12,29 +12,11 @@ returns c =
     let z : c .before .args .t1 .len ≡ 0 = search needs in
     rw z
 
-element-copy-out-first : tie.Need-element-copy-out-first
-element-copy-out-first c = search needs
-
-less-requires : tie.Need-less-requires
-less-requires c κs = search needs
-
 returns-2 : tie.Need-returns-2
 unfolding uncovered
 returns-2 c =
     let e = c .before .before .before in
     rw (ne-eqb _ _ (e .if1 .left), sym (c .before .less .ensures), c .if2 .taken)
-
-sub-last : tie.Need-sub-last
-sub-last c = search needs
-
-mul-last : tie.Need-mul-last
-mul-last c = search needs
-
-element-copy-out-last : tie.Need-element-copy-out-last
-element-copy-out-last c = search needs
-
-less-requires-2 : tie.Need-less-requires-2
-less-requires-2 c κs = search needs
 
 returns-3 : tie.Need-returns-3
 unfolding uncovered
@@ -46,13 +28,5 @@ returns-3 c =
 pub is-uncovered-spec : {M : Type 1} → statement M
 is-uncovered-spec =
     tie.close
-    (tie.spec
-    returns
-    element-copy-out-first
-    less-requires
-    returns-2
-    sub-last
-    mul-last
-    element-copy-out-last
-    less-requires-2
-    returns-3)
+    (tie.spec returns (λ c. search needs) (λ c κs. search needs) returns-2 (λ c. search needs) (λ c. search needs)
+    (λ c. search needs) (λ c κs. search needs) returns-3)

@@ -10,12 +10,6 @@ use Rattle.build.proofs.Steps.{made-baseline}
 use Rattle.build.proofs.ghosts.with_baseline.Statement.{statement}
 use Rattle.build.proofs.ghosts.with_baseline.Tie as tie
 
-is-uncovered-requires : tie.Need-is-uncovered-requires
-is-uncovered-requires c κs = search needs
-
-ghost-at-requires : tie.Need-ghost-at-requires
-ghost-at-requires c κs = search needs
-
 insert-requires : tie.Need-insert-requires
 insert-requires c κs =
     subst (λ (e : Hint). Valid (One e)) (sym (c .ghost-at .ensures)) (made-valid _ (made-baseline _))
@@ -24,7 +18,8 @@ returns : tie.Need-returns
 unfolding baselined
 returns c =
     let t = c .before .before .before in
-    rw (sym (t .before .is-uncovered .ensures), t .if1 .taken) (rw (c .before .ghost-at .ensures) at (c .insert .ensures))
+    rw (sym (t .before .is-uncovered .ensures), t .if1 .taken)
+    (rw (c .before .ghost-at .ensures) at (c .insert .ensures))
 
 returns-2 : tie.Need-returns-2
 unfolding baselined
@@ -32,4 +27,5 @@ returns-2 c = rw (sym (c .before .is-uncovered .ensures), c .if1 .left)
 
 pub with-baseline-spec : {M : Type 1} → statement M
 with-baseline-spec =
-    tie.close (tie.spec is-uncovered-requires ghost-at-requires insert-requires returns returns-2)
+    tie.close
+    (tie.spec (λ c κs. search needs) (λ c κs. search needs) insert-requires returns returns-2)

@@ -10,12 +10,6 @@ use Rattle.build.proofs.Steps.{made-box-bottom, made-box-top}
 use Rattle.build.proofs.ghosts.with_em_box.Statement.{statement}
 use Rattle.build.proofs.ghosts.with_em_box.Tie as tie
 
-em-bottom-requires : tie.Need-em-bottom-requires
-em-bottom-requires c κs = search needs
-
-em-top-requires : tie.Need-em-top-requires
-em-top-requires c κs = search needs
-
 insert-requires : tie.Need-insert-requires
 insert-requires c κs =
     subst (λ (e : Hint). Valid (One e)) (sym (c .before .em-bottom .ensures)) (made-valid _ (made-box-bottom _))
@@ -38,4 +32,4 @@ returns-2 c = rw (c .if1 .left)
 pub with-em-box-spec : {M : Type 1} → statement M
 with-em-box-spec =
     tie.close
-    (tie.spec em-bottom-requires em-top-requires insert-requires insert-requires-2 returns returns-2)
+    (tie.spec (λ c κs. search needs) (λ c κs. search needs) insert-requires insert-requires-2 returns returns-2)

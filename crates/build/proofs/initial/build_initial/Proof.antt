@@ -21,18 +21,6 @@ module _ (c : tie.After-place-locked) where
   good : Good (initialPlaced (begin .args .state) (begin .args .stems) .map)
   good = initial-placed-good (begin .args .state) (begin .args .stems)
 
-new-requires : tie.Need-new-requires
-new-requires c κs = search needs
-
-with-em-box-requires : tie.Need-with-em-box-requires
-with-em-box-requires c κs = search needs
-
-all-requires : tie.Need-all-requires
-all-requires c κs = search needs
-
-place-locked-requires : tie.Need-place-locked-requires
-place-locked-requires c κs = search needs
-
 with-baseline-requires : tie.Need-with-baseline-requires
 with-baseline-requires c κs = rw (placed (c .before)) (good (c .before) .within)
 
@@ -40,9 +28,6 @@ adjust-requires : tie.Need-adjust-requires
 adjust-requires c κs =
     let p = c .before .before in
     rw (c .with-baseline .ensures, placed p) (baselined-good _ (good p) .within)
-
-validate-requires : tie.Need-validate-requires
-validate-requires c κs = search needs
 
 returns : tie.Need-returns
 unfolding initialOf
@@ -53,12 +38,5 @@ returns c =
 pub build-initial-spec : {M : Type 1} → statement M
 build-initial-spec =
     tie.close
-    (tie.spec
-    new-requires
-    with-em-box-requires
-    all-requires
-    place-locked-requires
-    with-baseline-requires
-    adjust-requires
-    validate-requires
-    returns)
+    (tie.spec (λ c κs. search needs) (λ c κs. search needs) (λ c κs. search needs) (λ c κs. search needs)
+    with-baseline-requires adjust-requires (λ c κs. search needs) returns)

@@ -27,23 +27,8 @@ module _ (c : tie.After-place-free) where
   good : Good (placedOf (begin .args .state) (begin .args .mask) (begin .args .initial) (begin .args .stems))
   good = placed-good (begin .args .state) (begin .args .mask) (begin .args .initial) (begin .args .stems)
 
-new-requires : tie.Need-new-requires
-new-requires c κs = search needs
-
-with-em-box-requires : tie.Need-with-em-box-requires
-with-em-box-requires c κs = search needs
-
-place-locked-requires : tie.Need-place-locked-requires
-place-locked-requires c κs = search needs
-
-place-free-requires : tie.Need-place-free-requires
-place-free-requires c κs = search needs
-
 adjust-requires : tie.Need-adjust-requires
 adjust-requires c κs = rw (placed (c .before)) (good (c .before) .within)
-
-validate-requires : tie.Need-validate-requires
-validate-requires c κs = search needs
 
 save-all-requires : tie.Need-save-all-requires
 save-all-requires c κs =
@@ -59,12 +44,5 @@ returns c =
 pub build-map-spec : {M : Type 1} → statement M
 build-map-spec =
     tie.close
-    (tie.spec
-    new-requires
-    with-em-box-requires
-    place-locked-requires
-    place-free-requires
-    adjust-requires
-    validate-requires
-    save-all-requires
-    returns)
+    (tie.spec (λ c κs. search needs) (λ c κs. search needs) (λ c κs. search needs) (λ c κs. search needs)
+    adjust-requires (λ c κs. search needs) save-all-requires returns)

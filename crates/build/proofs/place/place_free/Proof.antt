@@ -66,9 +66,6 @@ module _ (c : tie.In-loop Inv-loop μ-loop) where
       left-more (free-round (start .args .state) (start .args .initial)) (start .args .t3) (cut .declared .result)
       (few cut) _ soFar q (c .before .loop .i) noStem (omega arith) (c .before .loop .inv)
 
-declared-requires : tie.Need-declared-requires Inv-loop μ-loop
-declared-requires c κs = search needs
-
 loop-holds : tie.Need-loop-holds Inv-loop μ-loop
 loop-holds c = (
   ap (λ (l : List StemHint). freeTurns (begin c .args .state) (begin c .args .initial) 0 l (begin c .args .p))
@@ -76,44 +73,11 @@ loop-holds c = (
   search needs,
 )
 
-get-requires : tie.Need-get-requires Inv-loop μ-loop
-get-requires c κs = search needs
-
-add-i : tie.Need-add-i Inv-loop μ-loop
-add-i c = search needs
-
-loop-less : tie.Need-loop-less Inv-loop μ-loop
-loop-less c = search needs
-
 loop-again : tie.Need-loop-again Inv-loop μ-loop
 unfolding freeTurn
 loop-again c =
     let g = c .before in
     again (g .before) _ (rw (sym (g .get .ensures), not-true (g .get .result) (c .if1 .taken)))
-
-mul-stem : tie.Need-mul-stem Inv-loop μ-loop
-mul-stem c = search needs
-
-element-copy-out-stem : tie.Need-element-copy-out-stem Inv-loop μ-loop
-element-copy-out-stem c = search needs
-
-cast-setup : tie.Need-cast-setup Inv-loop μ-loop
-cast-setup c = search needs
-
-setup-requires : tie.Need-setup-requires Inv-loop μ-loop
-setup-requires c κs = search needs
-
-cast-setup-2 : tie.Need-cast-setup-2 Inv-loop μ-loop
-cast-setup-2 c = search needs
-
-setup-requires-2 : tie.Need-setup-requires-2 Inv-loop μ-loop
-setup-requires-2 c κs = search needs
-
-shape-requires : tie.Need-shape-requires Inv-loop μ-loop
-shape-requires c κs = search needs
-
-choose-requires : tie.Need-choose-requires Inv-loop μ-loop
-choose-requires c κs = search needs
 
 insert-requires : tie.Need-insert-requires Inv-loop μ-loop
 insert-requires c κs =
@@ -122,9 +86,6 @@ insert-requires c κs =
 
 add-i-2 : tie.Need-add-i-2 Inv-loop μ-loop
 add-i-2 c = omega (arith, inside (c .before .before .before .before .before .before .before .before))
-
-loop-less-2 : tie.Need-loop-less-2 Inv-loop μ-loop
-loop-less-2 c = search needs
 
 loop-again-2 : tie.Need-loop-again-2 Inv-loop μ-loop
 unfolding freeTurn
@@ -153,25 +114,7 @@ returns c =
 pub place-free-spec : {M : Type 1} → statement M
 place-free-spec =
     tie.close
-    (tie.spec
-    Inv-loop
-    μ-loop
-    declared-requires
-    loop-holds
-    get-requires
-    add-i
-    loop-less
-    loop-again
-    mul-stem
-    element-copy-out-stem
-    cast-setup
-    setup-requires
-    cast-setup-2
-    setup-requires-2
-    shape-requires
-    choose-requires
-    insert-requires
-    add-i-2
-    loop-less-2
-    loop-again-2
-    returns)
+    (tie.spec Inv-loop μ-loop (λ c κs. search needs) loop-holds (λ c κs. search needs) (λ c. search needs)
+    (λ c. search needs) loop-again (λ c. search needs) (λ c. search needs) (λ c. search needs) (λ c κs. search needs)
+    (λ c. search needs) (λ c κs. search needs) (λ c κs. search needs) (λ c κs. search needs) insert-requires add-i-2
+    (λ c. search needs) loop-again-2 returns)

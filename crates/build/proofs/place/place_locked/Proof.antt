@@ -68,9 +68,6 @@ module _ (c : tie.In-loop Inv-loop μ-loop) where
       left-more (locked-round (start .args .state) (start .args .initial) (start .args .given)) (start .args .t3)
       (cut .declared .result) (few cut) _ soFar q (c .before .loop .i) noStem (omega arith) (c .before .loop .inv)
 
-declared-requires : tie.Need-declared-requires Inv-loop μ-loop
-declared-requires c κs = search needs
-
 loop-holds : tie.Need-loop-holds Inv-loop μ-loop
 loop-holds c = (
   ap (λ (l : List StemHint). lockedTurns (begin c .args .state) (begin c .args .initial) (begin c .args .given) 0 l
@@ -78,38 +75,11 @@ loop-holds c = (
   search needs,
 )
 
-get-requires : tie.Need-get-requires Inv-loop μ-loop
-get-requires c κs = search needs
-
-add-i : tie.Need-add-i Inv-loop μ-loop
-add-i c = search needs
-
-loop-less : tie.Need-loop-less Inv-loop μ-loop
-loop-less c = search needs
-
 loop-again : tie.Need-loop-again Inv-loop μ-loop
 unfolding lockedTurn
 loop-again c =
     let g = c .before in
     again (g .before) _ (rw (sym (g .get .ensures), not-true (g .get .result) (c .if1 .taken)))
-
-mul-stem : tie.Need-mul-stem Inv-loop μ-loop
-mul-stem c = search needs
-
-element-copy-out-stem : tie.Need-element-copy-out-stem Inv-loop μ-loop
-element-copy-out-stem c = search needs
-
-cast-prepared : tie.Need-cast-prepared Inv-loop μ-loop
-cast-prepared c = search needs
-
-prepared-requires : tie.Need-prepared-requires Inv-loop μ-loop
-prepared-requires c κs = search needs
-
-add-i-2 : tie.Need-add-i-2 Inv-loop μ-loop
-add-i-2 c = search needs
-
-loop-less-2 : tie.Need-loop-less-2 Inv-loop μ-loop
-loop-less-2 c = search needs
 
 loop-again-2 : tie.Need-loop-again-2 Inv-loop μ-loop
 unfolding lockedTurn
@@ -124,20 +94,11 @@ loop-again-2 c =
       not-true (r .prepared .result .captured) (c .if2 .taken),
     ))
 
-shape-requires : tie.Need-shape-requires Inv-loop μ-loop
-shape-requires c κs = search needs
-
-choose-requires : tie.Need-choose-requires Inv-loop μ-loop
-choose-requires c κs = search needs
-
 insert-requires : tie.Need-insert-requires Inv-loop μ-loop
 insert-requires c κs =
     let r = c .before .before .before .before .before .before in
     subst Valid (sym (simp (c .before .shape .ensures, r .prepared .ensures) at (c .choose .ensures)))
     (made-valid _ (made-prepared _ _ _))
-
-clear-requires : tie.Need-clear-requires Inv-loop μ-loop
-clear-requires c κs = search needs
 
 add-i-3 : tie.Need-add-i-3 Inv-loop μ-loop
 add-i-3 c =
@@ -145,9 +106,6 @@ add-i-3 c =
       arith,
       inside (c .before .before .before .before .before .before .before .before .before .before .before .before),
     )
-
-loop-less-3 : tie.Need-loop-less-3 Inv-loop μ-loop
-loop-less-3 c = search needs
 
 loop-again-3 : tie.Need-loop-again-3 Inv-loop μ-loop
 unfolding lockedTurn
@@ -179,27 +137,7 @@ returns c =
 pub place-locked-spec : {M : Type 1} → statement M
 place-locked-spec =
     tie.close
-    (tie.spec
-    Inv-loop
-    μ-loop
-    declared-requires
-    loop-holds
-    get-requires
-    add-i
-    loop-less
-    loop-again
-    mul-stem
-    element-copy-out-stem
-    cast-prepared
-    prepared-requires
-    add-i-2
-    loop-less-2
-    loop-again-2
-    shape-requires
-    choose-requires
-    insert-requires
-    clear-requires
-    add-i-3
-    loop-less-3
-    loop-again-3
-    returns)
+    (tie.spec Inv-loop μ-loop (λ c κs. search needs) loop-holds (λ c κs. search needs) (λ c. search needs)
+    (λ c. search needs) loop-again (λ c. search needs) (λ c. search needs) (λ c. search needs) (λ c κs. search needs)
+    (λ c. search needs) (λ c. search needs) loop-again-2 (λ c κs. search needs) (λ c κs. search needs) insert-requires
+    (λ c κs. search needs) add-i-3 (λ c. search needs) loop-again-3 returns)

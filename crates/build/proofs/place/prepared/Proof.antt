@@ -19,23 +19,11 @@ module _ (st : HintState) (stem : StemHint) (i : ℕ) (b t : Hint) (p : b ≡ se
   unfolding preparedOf
   prepared-by u v x y = rw (sym p, sym q, x, y)
 
-setup-requires : tie.Need-setup-requires
-setup-requires c κs = search needs
-
-setup-requires-2 : tie.Need-setup-requires-2
-setup-requires-2 c κs = search needs
-
-is-locked-requires : tie.Need-is-locked-requires
-is-locked-requires c κs = search needs
-
 returns : tie.Need-returns
 returns c =
     let e = c .before .before in
     sym (prepared-by _ _ _ _ _ (e .before .setup .ensures) (e .setup2 .ensures) true
     _ (sym (c .before .is-locked .ensures) ∙ c .if1 .taken) refl)
-
-is-locked-requires-2 : tie.Need-is-locked-requires-2
-is-locked-requires-2 c κs = search needs
 
 returns-2 : tie.Need-returns-2
 returns-2 c =
@@ -43,9 +31,6 @@ returns-2 c =
     let e = l .before .before in
     sym (prepared-by _ _ _ _ _ (e .before .setup .ensures) (e .setup2 .ensures) false true
     (sym (l .before .is-locked .ensures) ∙ l .if1 .left) (sym (c .before .is-locked2 .ensures) ∙ c .if2 .taken))
-
-capture-requires : tie.Need-capture-requires
-capture-requires c κs = search needs
 
 returns-3 : tie.Need-returns-3
 returns-3 c =
@@ -58,12 +43,5 @@ returns-3 c =
 pub prepared-spec : {M : Type 1} → statement M
 prepared-spec =
     tie.close
-    (tie.spec
-    setup-requires
-    setup-requires-2
-    is-locked-requires
-    returns
-    is-locked-requires-2
-    returns-2
-    capture-requires
-    returns-3)
+    (tie.spec (λ c κs. search needs) (λ c κs. search needs) (λ c κs. search needs) returns (λ c κs. search needs)
+    returns-2 (λ c κs. search needs) returns-3)

@@ -54,49 +54,10 @@ module _ (c : tie.In-loop Inv-loop μ-loop) where
 loop-holds : tie.Need-loop-holds Inv-loop μ-loop
 loop-holds c = (search needs, (omega (arith, simp length-map at (c .good .0 .1 .1 .0 .1 .0 .1)), refl))
 
-mul-edge : tie.Need-mul-edge Inv-loop μ-loop
-mul-edge c = search needs
-
-element-copy-out-edge : tie.Need-element-copy-out-edge Inv-loop μ-loop
-element-copy-out-edge c = search needs
-
-is-synthetic-requires : tie.Need-is-synthetic-requires Inv-loop μ-loop
-is-synthetic-requires c κs = search needs
-
-add-i : tie.Need-add-i Inv-loop μ-loop
-add-i c = search needs
-
-loop-less : tie.Need-loop-less Inv-loop μ-loop
-loop-less c = search needs
-
 loop-again : tie.Need-loop-again Inv-loop μ-loop
 loop-again c =
     let i = c .before .before .before in
     again i _ (save-synthetic (edge i) _ (sym (c .before .is-synthetic .ensures) ∙ c .if1 .taken))
-
-cast-k : tie.Need-cast-k Inv-loop μ-loop
-cast-k c = search needs
-
-mul-stem : tie.Need-mul-stem Inv-loop μ-loop
-mul-stem c = search needs
-
-element-copy-out-stem : tie.Need-element-copy-out-stem Inv-loop μ-loop
-element-copy-out-stem c = search needs
-
-saved-requires : tie.Need-saved-requires Inv-loop μ-loop
-saved-requires c κs = search needs
-
-mul-t16 : tie.Need-mul-t16 Inv-loop μ-loop
-mul-t16 c = search needs
-
-element-set-from-after : tie.Need-element-set-from-after Inv-loop μ-loop
-element-set-from-after c = search needs
-
-add-i-2 : tie.Need-add-i-2 Inv-loop μ-loop
-add-i-2 c = search needs
-
-loop-less-2 : tie.Need-loop-less-2 Inv-loop μ-loop
-loop-less-2 c = search needs
 
 loop-again-2 : tie.Need-loop-again-2 Inv-loop μ-loop
 loop-again-2 c =
@@ -117,23 +78,7 @@ returns c =
 pub save-all-spec : {M : Type 1} → statement M
 save-all-spec =
     tie.close
-    (tie.spec
-    Inv-loop
-    μ-loop
-    loop-holds
-    mul-edge
-    element-copy-out-edge
-    is-synthetic-requires
-    add-i
-    loop-less
-    loop-again
-    cast-k
-    mul-stem
-    element-copy-out-stem
-    saved-requires
-    mul-t16
-    element-set-from-after
-    add-i-2
-    loop-less-2
-    loop-again-2
-    returns)
+    (tie.spec Inv-loop μ-loop loop-holds (λ c. search needs) (λ c. search needs) (λ c κs. search needs)
+    (λ c. search needs) (λ c. search needs) loop-again (λ c. search needs) (λ c. search needs) (λ c. search needs)
+    (λ c κs. search needs) (λ c. search needs) (λ c. search needs) (λ c. search needs) (λ c. search needs)
+    loop-again-2 returns)

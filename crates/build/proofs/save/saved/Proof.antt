@@ -4,9 +4,6 @@ use borrow.Author.Needs.{needs}
 use Rattle.build.proofs.save.saved.Statement.{statement}
 use Rattle.build.proofs.save.saved.Tie as tie
 
-is-top-requires : tie.Need-is-top-requires
-is-top-requires c κs = search needs
-
 returns : tie.Need-returns
 returns c = rw (← c .before .is-top .ensures, c .if1 .taken)
 
@@ -14,4 +11,5 @@ returns-2 : tie.Need-returns-2
 returns-2 c = rw (← c .before .is-top .ensures, c .if1 .left)
 
 pub saved-spec : {M : Type 1} → statement M
-saved-spec = tie.close (tie.spec is-top-requires returns returns-2)
+saved-spec = tie.close
+    (tie.spec (λ c κs. search needs) returns returns-2)

@@ -6,31 +6,13 @@ use Rattle.hintmap.specs.Insert.{bars}
 use Rattle.hintmap.proofs.insert.Edges.barred.Statement.{statement}
 use Rattle.hintmap.proofs.insert.Edges.barred.Tie as tie
 
-enum-known-self : tie.Need-enum-known-self
-enum-known-self c = search needs
-
-same-requires : tie.Need-same-requires
-same-requires c κs = search needs
-
 returns : tie.Need-returns
 unfolding bars
 returns c = rw (c .before .before .before .self .given .1, sym (c .before .same .ensures), c .if1 .taken)
 
-is-pair-top-requires : tie.Need-is-pair-top-requires
-is-pair-top-requires c κs = search needs
-
-enum-known-self-2 : tie.Need-enum-known-self-2
-enum-known-self-2 c = search needs
-
-same-requires-2 : tie.Need-same-requires-2
-same-requires-2 c κs = search needs
-
 returns-2 : tie.Need-returns-2
 unfolding bars
 returns-2 c = rw (c .before .before .before .self2 .given .1, sym (c .before .same2 .ensures), c .if2 .taken)
-
-is-pair-top-requires-2 : tie.Need-is-pair-top-requires-2
-is-pair-top-requires-2 c κs = search needs
 
 returns-3 : tie.Need-returns-3
 unfolding bars
@@ -42,9 +24,6 @@ returns-3 c =
       sym (c .before .is-pair-top2 .ensures),
       c .if3 .taken,
     )
-
-at-most-requires : tie.Need-at-most-requires
-at-most-requires c κs = search needs
 
 returns-4 : tie.Need-returns-4
 unfolding bars
@@ -66,16 +45,5 @@ returns-5 c =
 pub barred-spec : {M : Type 1} → statement M
 barred-spec =
     tie.close
-    (tie.spec
-    enum-known-self
-    same-requires
-    returns
-    is-pair-top-requires
-    enum-known-self-2
-    same-requires-2
-    returns-2
-    is-pair-top-requires-2
-    returns-3
-    at-most-requires
-    returns-4
-    returns-5)
+    (tie.spec (λ c. search needs) (λ c κs. search needs) returns (λ c κs. search needs) (λ c. search needs)
+    (λ c κs. search needs) returns-2 (λ c κs. search needs) returns-3 (λ c κs. search needs) returns-4 returns-5)

@@ -4,15 +4,6 @@ use Rattle.hintmap.specs.Insert.{chosen}
 use Rattle.hintmap.proofs.insert.Edges.choose.Statement.{statement}
 use Rattle.hintmap.proofs.insert.Edges.choose.Tie as tie
 
-enum-told : tie.Need-enum-told
-enum-told c = search needs
-
-enum-told-2 : tie.Need-enum-told-2
-enum-told-2 c = search needs
-
-enum-told-3 : tie.Need-enum-told-3
-enum-told-3 c = search needs
-
 returns : tie.Need-returns
 unfolding chosen
 returns c = rw (c .enum-told .given .1)
@@ -26,4 +17,5 @@ unfolding chosen
 returns-3 c = rw (c .enum-told3 .given .1)
 
 pub choose-spec : {M : Type 1} → statement M
-choose-spec = tie.close (tie.spec enum-told enum-told-2 enum-told-3 returns returns-2 returns-3)
+choose-spec = tie.close
+    (tie.spec (λ c. search needs) (λ c. search needs) (λ c. search needs) returns returns-2 returns-3)

@@ -5,12 +5,6 @@ use Rattle.hintmap.specs.Insert.{firstEdge}
 use Rattle.hintmap.proofs.insert.Edges.first.Statement.{statement}
 use Rattle.hintmap.proofs.insert.Edges.first.Tie as tie
 
-enum-known-self : tie.Need-enum-known-self
-enum-known-self c = search needs
-
-enum-known-self-2 : tie.Need-enum-known-self-2
-enum-known-self-2 c = search needs
-
 returns : tie.Need-returns
 returns c = search needs
 
@@ -18,4 +12,5 @@ returns-2 : tie.Need-returns-2
 returns-2 c = sym (ap firstEdge (c .before .self2 .given .1))
 
 pub first-spec : {M : Type 1} → statement M
-first-spec = tie.close (tie.spec enum-known-self enum-known-self-2 returns returns-2)
+first-spec = tie.close
+    (tie.spec (λ c. search needs) (λ c. search needs) returns returns-2)

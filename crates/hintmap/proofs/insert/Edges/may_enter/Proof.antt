@@ -6,15 +6,6 @@ use Rattle.hintmap.specs.Insert.{mayEnter}
 use Rattle.hintmap.proofs.insert.Edges.may_enter.Statement.{statement}
 use Rattle.hintmap.proofs.insert.Edges.may_enter.Tie as tie
 
-enum-told : tie.Need-enum-told
-enum-told c = search needs
-
-enum-known-self : tie.Need-enum-known-self
-enum-known-self c = search needs
-
-less-requires : tie.Need-less-requires
-less-requires c κs = search needs
-
 returns : tie.Need-returns
 unfolding mayEnter
 returns c = rw (c .before .before .before .self .given .1, sym (c .before .less .ensures), c .if1 .taken)
@@ -29,4 +20,5 @@ returns-3 c = rw (c .before .before .before .self .given .1, sym (c .before .les
 
 pub may-enter-spec : {M : Type 1} → statement M
 may-enter-spec =
-    tie.close (tie.spec enum-told enum-known-self less-requires returns returns-2 returns-3)
+    tie.close
+    (tie.spec (λ c. search needs) (λ c. search needs) (λ c κs. search needs) returns returns-2 returns-3)

@@ -7,21 +7,12 @@ use Rattle.hintmap.proofs.Outcome.{Fits, outcome-fits}
 use Rattle.hintmap.proofs.map.HintMap.insert.Statement.{statement}
 use Rattle.hintmap.proofs.map.HintMap.insert.Tie as tie
 
-outcome-requires : tie.Need-outcome-requires
-outcome-requires c κs = search needs
-
-enum-known-at : tie.Need-enum-known-at
-enum-known-at c = search needs
-
 put-requires : tie.Need-put-requires
 put-requires c κs =
     let o = c .before .before .before in
     let a = o .before .args in
     subst (Fits (a .self)) (sym (o .outcome .ensures) ∙ c .before .at .given .1)
     (outcome-fits (a .self) (a .e) (a .initial) (a .given))
-
-enum-told : tie.Need-enum-told
-enum-told c = search needs
 
 returns : tie.Need-returns
 unfolding insertIn
@@ -37,4 +28,5 @@ returns-2 c =
     ap (λ (x : Outcome). insertBy x (o .before .args .self)) (sym (c .enum-told .given .1) ∙ o .outcome .ensures)
 
 pub insert-spec : {M : Type 1} → statement M
-insert-spec = tie.close (tie.spec outcome-requires enum-known-at put-requires enum-told returns returns-2)
+insert-spec = tie.close
+    (tie.spec (λ c κs. search needs) (λ c. search needs) put-requires (λ c. search needs) returns returns-2)

@@ -3,11 +3,9 @@ use borrow.Author.Needs.{needs}
 use Rattle.hintmap.proofs.map.HintMap.new.Statement.{statement}
 use Rattle.hintmap.proofs.map.HintMap.new.Tie as tie
 
-none-requires : tie.Need-none-requires
-none-requires c κs = search needs
-
 returns : tie.Need-returns
 returns c = rw (c .none .ensures)
 
 pub new-spec : {M : Type 1} → statement M
-new-spec = tie.close (tie.spec none-requires returns)
+new-spec = tie.close
+    (tie.spec (λ c κs. search needs) returns)

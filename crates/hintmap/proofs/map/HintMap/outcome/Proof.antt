@@ -154,17 +154,11 @@ enter c t =
       above = above-is j ∙ t;
     }))
 
-may-enter-requires : tie.Need-may-enter-requires Inv-loop μ-loop
-may-enter-requires c κs = search needs
-
 returns : tie.Need-returns Inv-loop μ-loop
 returns c =
     let a = c .before .before .args in
     sym (drops (a .t1) (a .e) (a .initial) (a .given) .entry
     (sym (c .before .may-enter .ensures) ∙ not-true _ (c .if1 .taken)))
-
-first-requires : tie.Need-first-requires Inv-loop μ-loop
-first-requires c κs = search needs
 
 loop-holds : tie.Need-loop-holds Inv-loop μ-loop
 loop-holds c = (search needs, omega arith)
@@ -174,15 +168,6 @@ mul-x c = omega (arith, few (c .before .before .before))
 
 element-copy-out-x : tie.Need-element-copy-out-x Inv-loop μ-loop
 element-copy-out-x c = omega (arith, few (c .before .before .before))
-
-less-requires : tie.Need-less-requires Inv-loop μ-loop
-less-requires c κs = search needs
-
-add-at : tie.Need-add-at Inv-loop μ-loop
-add-at c = omega arith
-
-loop-less : tie.Need-loop-less Inv-loop μ-loop
-loop-less c = omega arith
 
 loop-again : tie.Need-loop-again Inv-loop μ-loop
 loop-again c =
@@ -200,9 +185,6 @@ mul-x-2 c = omega (arith, within (c .before))
 element-copy-out-x-2 : tie.Need-element-copy-out-x-2 Inv-loop μ-loop
 element-copy-out-x-2 c = omega (arith, within (c .before))
 
-barred-requires : tie.Need-barred-requires Inv-loop μ-loop
-barred-requires c κs = search needs
-
 returns-2 : tie.Need-returns-2 Inv-loop μ-loop
 returns-2 c =
     let l = c .before .before .before .before in
@@ -212,29 +194,11 @@ returns-2 c =
     (char-is l ∙ sym (k .clear _ (c .before .before .before .if3 .taken) (c .before .barred .ensures)) ∙
     ap not (c .if4 .taken)))
 
-is-free-requires : tie.Need-is-free-requires Inv-loop μ-loop
-is-free-requires c κs = search needs
-
-middle-requires : tie.Need-middle-requires Inv-loop μ-loop
-middle-requires c κs = search needs
-
-transform-requires : tie.Need-transform-requires Inv-loop μ-loop
-transform-requires c κs = search needs
-
-around-requires : tie.Need-around-requires Inv-loop μ-loop
-around-requires c κs = search needs
-
-sub-before : tie.Need-sub-before Inv-loop μ-loop
-sub-before c = search needs
-
 mul-before : tie.Need-mul-before Inv-loop μ-loop
 mul-before c = omega (arith, within (left (c .before)))
 
 element-copy-out-before : tie.Need-element-copy-out-before Inv-loop μ-loop
 element-copy-out-before c = omega (arith, within (left (c .before)))
-
-under-requires : tie.Need-under-requires Inv-loop μ-loop
-under-requires c κs = search needs
 
 returns-3 : tie.Need-returns-3 Inv-loop μ-loop
 returns-3 c =
@@ -249,9 +213,6 @@ mul-after c = omega (arith, within (left (c .before .before)))
 
 element-copy-out-after : tie.Need-element-copy-out-after Inv-loop μ-loop
 element-copy-out-after c = omega (arith, within (left (c .before .before)))
-
-too-high-requires : tie.Need-too-high-requires Inv-loop μ-loop
-too-high-requires c κs = search needs
 
 returns-4 : tie.Need-returns-4 Inv-loop μ-loop
 returns-4 c =
@@ -272,35 +233,9 @@ returns-6 c = enter (c .before) (sym (beside (c .before .before) .none _ (c .if8
 pub outcome-spec : {M : Type 1} → statement M
 outcome-spec =
     tie.close
-    (tie.spec
-    Inv-loop
-    μ-loop
-    may-enter-requires
-    returns
-    first-requires
-    loop-holds
-    mul-x
-    element-copy-out-x
-    less-requires
-    add-at
-    loop-less
-    loop-again
-    mul-x-2
-    element-copy-out-x-2
-    barred-requires
-    returns-2
-    is-free-requires
-    middle-requires
-    transform-requires
-    around-requires
-    sub-before
-    mul-before
-    element-copy-out-before
-    under-requires
-    returns-3
-    mul-after
-    element-copy-out-after
-    too-high-requires
-    returns-4
-    returns-5
+    (tie.spec Inv-loop μ-loop (λ c κs. search needs) returns (λ c κs. search needs) loop-holds mul-x
+    element-copy-out-x (λ c κs. search needs) (λ c. omega arith) (λ c. omega arith) loop-again mul-x-2
+    element-copy-out-x-2 (λ c κs. search needs) returns-2 (λ c κs. search needs) (λ c κs. search needs)
+    (λ c κs. search needs) (λ c κs. search needs) (λ c. search needs) mul-before element-copy-out-before
+    (λ c κs. search needs) returns-3 mul-after element-copy-out-after (λ c κs. search needs) returns-4 returns-5
     returns-6)

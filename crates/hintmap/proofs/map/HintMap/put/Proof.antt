@@ -53,9 +53,6 @@ Inv-loop at e self₀ n k₀ self k =
 abbrev μ-loop : tie.MeasureT-loop
 μ-loop at e self₀ n k₀ self k = k
 
-count-requires : tie.Need-count-requires Inv-loop μ-loop
-count-requires c κs = search needs
-
 -- there is room for what is put in
 module _ (c : tie.After-count Inv-loop μ-loop) where
   abbrev map : HintMap
@@ -95,9 +92,6 @@ add-self c = omega (arith, few c)
 loop-holds : tie.Need-loop-holds Inv-loop μ-loop
 loop-holds c = (search needs, (search needs, ap (with (map c) (c .count .result)) (sym (shifted-none _ _ _ (room c)))))
 
-sub-k : tie.Need-sub-k Inv-loop μ-loop
-sub-k c = search needs
-
 mul-x : tie.Need-mul-x Inv-loop μ-loop
 mul-x c = omega (arith, few (c .before .before))
 
@@ -113,9 +107,6 @@ mul-x-2 c = omega (arith, few (c .before .before .before))
 element-set-from-x : tie.Need-element-set-from-x Inv-loop μ-loop
 element-set-from-x c = omega (arith, few (c .before .before .before))
 
-loop-less : tie.Need-loop-less Inv-loop μ-loop
-loop-less c = search needs
-
 loop-again : tie.Need-loop-again Inv-loop μ-loop
 loop-again c =
     let at = c .before .before in
@@ -124,17 +115,11 @@ loop-again c =
     (room (at .before)) in
     (omega arith, (omega arith, rw (at .loop .inv .1 .1) (ap (with m (at .before .count .result)) step)))
 
-enum-known-e : tie.Need-enum-known-e Inv-loop μ-loop
-enum-known-e c = search needs
-
 mul-x-3 : tie.Need-mul-x-3 Inv-loop μ-loop
 mul-x-3 c = omega (arith, near (c .before .before .before))
 
 element-set-from-x-2 : tie.Need-element-set-from-x-2 Inv-loop μ-loop
 element-set-from-x-2 c = omega (arith, near (c .before .before .before), one c)
-
-enum-known-e-2 : tie.Need-enum-known-e-2 Inv-loop μ-loop
-enum-known-e-2 c = search needs
 
 mul-b : tie.Need-mul-b Inv-loop μ-loop
 mul-b c = omega (arith, near (c .before .before .before))
@@ -175,28 +160,6 @@ returns-2 c =
 pub put-spec : {M : Type 1} → statement M
 put-spec =
     tie.close
-    (tie.spec
-    Inv-loop
-    μ-loop
-    count-requires
-    add-self
-    loop-holds
-    sub-k
-    mul-x
-    element-copy-out-x
-    add-x
-    mul-x-2
-    element-set-from-x
-    loop-less
-    loop-again
-    enum-known-e
-    mul-x-3
-    element-set-from-x-2
-    enum-known-e-2
-    mul-b
-    element-set-from-b
-    add-t
-    mul-t
-    element-set-from-t
-    returns
-    returns-2)
+    (tie.spec Inv-loop μ-loop (λ c κs. search needs) add-self loop-holds (λ c. search needs) mul-x element-copy-out-x
+    add-x mul-x-2 element-set-from-x (λ c. search needs) loop-again (λ c. search needs) mul-x-3 element-set-from-x-2
+    (λ c. search needs) mul-b element-set-from-b add-t mul-t element-set-from-t returns returns-2)

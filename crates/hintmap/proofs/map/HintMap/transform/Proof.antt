@@ -86,12 +86,6 @@ module _ (c : tie.Left-loop Inv-loop μ-loop) where
       r ≡ mapOf (view (begin .before .args .t1)) (map .scale) at
   on t e = e ∙ ap (λ (u : Bool). line served (cond u (map .scale) (served .scale)) at) t ∙ sym mapped
 
-least-requires : tie.Need-least-requires Inv-loop μ-loop
-least-requires c κs = search needs
-
-mul-requires : tie.Need-mul-requires Inv-loop μ-loop
-mul-requires c κs = search needs
-
 returns : tie.Need-returns Inv-loop μ-loop
 unfolding mapOf
 returns c =
@@ -102,27 +96,6 @@ returns c =
 
 loop-holds : tie.Need-loop-holds Inv-loop μ-loop
 loop-holds c = (omega arith, (room (c .before), omega arith))
-
-add-loop : tie.Need-add-loop Inv-loop μ-loop
-add-loop c = omega arith
-
-add-next : tie.Need-add-next Inv-loop μ-loop
-add-next c = omega arith
-
-mul-next : tie.Need-mul-next Inv-loop μ-loop
-mul-next c = omega arith
-
-element-copy-out-next : tie.Need-element-copy-out-next Inv-loop μ-loop
-element-copy-out-next c = omega arith
-
-at-most-requires : tie.Need-at-most-requires Inv-loop μ-loop
-at-most-requires c κs = search needs
-
-add-i : tie.Need-add-i Inv-loop μ-loop
-add-i c = omega arith
-
-loop-less : tie.Need-loop-less Inv-loop μ-loop
-loop-less c = omega arith
 
 loop-again : tie.Need-loop-again Inv-loop μ-loop
 loop-again c =
@@ -136,25 +109,10 @@ loop-again c =
       ),
     )
 
-mul-edge : tie.Need-mul-edge Inv-loop μ-loop
-mul-edge c = omega arith
-
-element-copy-out-edge : tie.Need-element-copy-out-edge Inv-loop μ-loop
-element-copy-out-edge c = omega arith
-
-less-requires : tie.Need-less-requires Inv-loop μ-loop
-less-requires c κs = search needs
-
-on-line-requires : tie.Need-on-line-requires Inv-loop μ-loop
-on-line-requires c κs = search needs
-
 returns-2 : tie.Need-returns-2 Inv-loop μ-loop
 returns-2 c =
     on (c .before .before .before .before .before)
     (sym (c .before .before .if3 .taken) ∙ c .before .before .before .less .ensures) (c .on-line .ensures)
-
-on-line-requires-2 : tie.Need-on-line-requires-2 Inv-loop μ-loop
-on-line-requires-2 c κs = search needs
 
 returns-3 : tie.Need-returns-3 Inv-loop μ-loop
 returns-3 c =
@@ -164,25 +122,7 @@ returns-3 c =
 pub transform-spec : {M : Type 1} → statement M
 transform-spec =
     tie.close
-    (tie.spec
-    Inv-loop
-    μ-loop
-    least-requires
-    mul-requires
-    returns
-    loop-holds
-    add-loop
-    add-next
-    mul-next
-    element-copy-out-next
-    at-most-requires
-    add-i
-    loop-less
-    loop-again
-    mul-edge
-    element-copy-out-edge
-    less-requires
-    on-line-requires
-    returns-2
-    on-line-requires-2
-    returns-3)
+    (tie.spec Inv-loop μ-loop (λ c κs. search needs) (λ c κs. search needs) returns loop-holds (λ c. omega arith)
+    (λ c. omega arith) (λ c. omega arith) (λ c. omega arith) (λ c κs. search needs) (λ c. omega arith)
+    (λ c. omega arith) loop-again (λ c. omega arith) (λ c. omega arith) (λ c κs. search needs) (λ c κs. search needs)
+    returns-2 (λ c κs. search needs) returns-3)
