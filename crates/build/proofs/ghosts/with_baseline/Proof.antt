@@ -1,9 +1,6 @@
 -- `with_baseline` meets its contract, by those of its calls. Assumes nothing.
-use mathlib.Core.Path.{sym, subst}
+use mathlib.Core.Path.{sym}
 use borrow.Author.Needs.{needs}
-use Rattle.stems.specs.declared.edge.Hint.{Hint}
-use Rattle.hintmap.specs.declared.insert.Edges.the-variants.{One}
-use Rattle.hintmap.specs.Insert.{Valid}
 use Rattle.hintmap.proofs.Made.{made-valid}
 use Rattle.build.specs.Ghosts.{baselined}
 use Rattle.build.proofs.Steps.{made-baseline}
@@ -11,8 +8,7 @@ use Rattle.build.proofs.ghosts.with_baseline.Statement.{statement}
 use Rattle.build.proofs.ghosts.with_baseline.Tie as tie
 
 insert-requires : tie.Need-insert-requires
-insert-requires c κs =
-    subst (λ (e : Hint). Valid (One e)) (sym (c .ghost-at .ensures)) (made-valid _ (made-baseline _))
+insert-requires c κs = rw (c .ghost-at .ensures) (made-valid _ (made-baseline _))
 
 returns : tie.Need-returns
 unfolding baselined

@@ -1,9 +1,5 @@
 -- `with_em_box` meets its contract, by those of its calls. Assumes nothing.
-use mathlib.Core.Path.{sym, subst}
 use borrow.Author.Needs.{needs}
-use Rattle.stems.specs.declared.edge.Hint.{Hint}
-use Rattle.hintmap.specs.declared.insert.Edges.the-variants.{One}
-use Rattle.hintmap.specs.Insert.{Valid}
 use Rattle.hintmap.proofs.Made.{made-valid}
 use Rattle.build.specs.Ghosts.{emBoxed}
 use Rattle.build.proofs.Steps.{made-box-bottom, made-box-top}
@@ -11,12 +7,10 @@ use Rattle.build.proofs.ghosts.with_em_box.Statement.{statement}
 use Rattle.build.proofs.ghosts.with_em_box.Tie as tie
 
 insert-requires : tie.Need-insert-requires
-insert-requires c κs =
-    subst (λ (e : Hint). Valid (One e)) (sym (c .before .em-bottom .ensures)) (made-valid _ (made-box-bottom _))
+insert-requires c κs = rw (c .before .em-bottom .ensures) (made-valid _ (made-box-bottom _))
 
 insert-requires-2 : tie.Need-insert-requires-2
-insert-requires-2 c κs =
-    subst (λ (e : Hint). Valid (One e)) (sym (c .before .em-top .ensures)) (made-valid _ (made-box-top _))
+insert-requires-2 c κs = rw (c .before .em-top .ensures) (made-valid _ (made-box-top _))
 
 returns : tie.Need-returns
 unfolding emBoxed

@@ -2,7 +2,7 @@
 -- `i` on, give what all give. What each way through a turn leaves is what the definition's turn
 -- gives. The measure is what is left of the count, which is cut to the room for stems. Assumes
 -- nothing.
-use mathlib.Core.Path.{_≡_, sym, ap, subst, _∙_}
+use mathlib.Core.Path.{_≡_, sym, ap, _∙_}
 use mathlib.Core.List.{List}
 use Prim.Native.Nat.{ℕ, _+_, _-_, _≤_, _<_}
 use native.Mathlib.Omega.{arith}
@@ -11,12 +11,10 @@ use borrow.Author.Needs.{needs}
 use borrow.Author.Tests.{not-true, not-false}
 use Rattle.fixed.proofs.Counts.{take-least}
 use Rattle.stems.specs.declared.edge.StemHint.{StemHint}
-use Rattle.hintmap.specs.Insert.{Valid}
-use Rattle.hintmap.proofs.Made.{made-valid}
 use Rattle.build.specs.declared.place.Placed.{Placed}
 use Rattle.build.specs.Place.{declaredIn, lockedTurn, lockedTurns}
 use Rattle.build.specs.Build.{noStem}
-use Rattle.build.proofs.Steps.{made-prepared}
+use Rattle.build.proofs.Steps.{valid-prepared}
 use Rattle.build.proofs.Rounds.{Left, locked-round, left-more, left-ends}
 use Rattle.build.proofs.place.place_locked.Statement.{statement}
 use Rattle.build.proofs.place.place_locked.Tie as tie
@@ -97,8 +95,7 @@ loop-again-2 c =
 insert-requires : tie.Need-insert-requires Inv-loop μ-loop
 insert-requires c κs =
     let r = c .before .before .before .before .before .before in
-    subst Valid (sym (simp (c .before .shape .ensures, r .prepared .ensures) at (c .choose .ensures)))
-    (made-valid _ (made-prepared _ _ _))
+    valid-prepared _ _ _ (c .before .shape .ensures) (r .prepared .ensures) (c .choose .ensures)
 
 add-i-3 : tie.Need-add-i-3 Inv-loop μ-loop
 add-i-3 c =
