@@ -69,7 +69,7 @@ unfoldable pub EachValid : List Handed → Type 0
 EachValid [] = Unit {0}
 EachValid (h ∷ hs) = OneValid h × EachValid hs
 
--- what is put in of two edges: where the bottom one is not valid the top one, whatever that is
+-- what the Rust puts in of two edges: where the bottom one is not valid the top one, whatever that is
 abbrev pub takenBy : Bool → Bool → Hint → Hint → Edges
 takenBy false v b t = One t
 takenBy true false b t = One b
