@@ -10,7 +10,7 @@ use Rattle.fixed.specs.Fixed.{addF, subF, negF, absF, twiceF, mulF, overZero, q
 use Rattle.fixed.specs.Fixed.{halfF, midpointF, truncF, minF, maxF}
 use Rattle.fixed.specs.Integers.{lowBits, signed, wrap32, nearest}
 use Rattle.hintmap.specs.Insert.{chosen, mayEnter, bars, tooHigh, again, putEdges, outcomeOf, insertIn}
-use Rattle.hintmap.specs.Map.{leading, line, mapOf, clearAhead, clearBehind}
+use Rattle.hintmap.specs.Map.{leading, lastOf, line, mapOf, clearAhead, clearBehind}
 use Rattle.hintmap.specs.WholeStems.{Past, Made}
 use Rattle.stems.specs.Edge.{shapeOf, edgeOf, setupOf}
 use Rattle.stems.specs.Mask.{maskOf, isActive, cleared, sameBytes}
@@ -24,11 +24,11 @@ pub starred : AllHold rows
 unfolding toNext movesOf roomUp roomDown choiceOf noteOf movedHint settleOf rescaledHint nextPlace upperOf notedOf
     turnOf passFrom firstPass liftBoth retryOf secondPass adjustOf initialOf savedIn savedAll builtOf emBottom emTop
     emBoxed uncovered baselined preparedOf lockedTurn freeTurn lockedTurns freeTurns addF subF negF absF twiceF mulF
-    overZero quotientOf divF mulDivF roundF fractF halfF midpointF truncF minF maxF lowBits signed wrap32 nearest chosen
-    mayEnter bars tooHigh again putEdges outcomeOf insertIn leading line mapOf clearAhead clearBehind Past Made shapeOf
-    edgeOf setupOf maskOf isActive cleared sameBytes holds firstHolding bottomGoal topGoal captureMove lifted captureOf
-    emBox clampedScale boostOf stateOf sift bluesZones kept greatestFrom nearer nearestFrom nearestOf movedFlat
-    deviceFlat keptIn readIn
+    overZero quotientOf divF mulDivF roundF fractF halfF midpointF truncF minF maxF lowBits signed wrap32 nearest
+    chosen mayEnter bars tooHigh again putEdges outcomeOf insertIn leading lastOf line mapOf clearAhead clearBehind
+    Past Made shapeOf edgeOf setupOf maskOf isActive cleared sameBytes holds firstHolding bottomGoal topGoal
+    captureMove lifted captureOf emBox clampedScale boostOf stateOf sift bluesZones kept greatestFrom nearer
+    nearestFrom nearestOf movedFlat deviceFlat keptIn readIn
 starred = (
   refl,
   (
