@@ -1,6 +1,6 @@
-"""Zones and capture (01, "Zones").
+"""Zones and capture (01, "Zones", with request 4 of 02).
 
-Written from 01 and the readings of it alone.
+Written from 01, the request and the readings of both alone.
 """
 
 from dataclasses import dataclass, replace
@@ -87,25 +87,26 @@ def zones_of(params):
     return [bottom_zone(*pair) for pair in blues[:1]] + [top_zone(*pair) for pair in blues[1:]] + bottoms
 
 
-def nearest_edge(flat, family, limit):
-    """The family edge nearest to a flat edge among those that count, or the flat edge itself."""
-    counted = []
-    for edge in family:
+def counted(flat, edges, limit):
+    """The distances of those edges that count, each with its edge; after a distance of 0 none is looked at."""
+    found = []
+    for edge in edges:
         distance = wrapped(abs(wrapped(flat - edge)))
         if distance < limit:
-            counted.append((distance, edge))
+            found.append((distance, edge))
             if distance == 0:
                 break
-    if not counted:
-        return flat
-    return min(counted, key=lambda counting: counting[0])[1]
+    return found
 
 
 def family_edge(zone, params, limit):
-    """Step 2, as printed: a bottom zone does not look at the first family blue."""
+    """Step 2, with request 4: after its search a bottom zone looks at the first family blue, however that ended."""
     if zone.is_bottom:
-        return nearest_edge(zone.flat, [top for _, top in params.family_other_blues], limit)
-    return nearest_edge(zone.flat, [bottom for bottom, _ in params.family_blues[1:]], limit)
+        found = counted(zone.flat, [top for _, top in params.family_other_blues], limit)
+        found += counted(zone.flat, [top for _, top in params.family_blues[:1]], limit)
+    else:
+        found = counted(zone.flat, [bottom for bottom, _ in params.family_blues[1:]], limit)
+    return min(found, key=lambda counting: counting[0])[1] if found else zone.flat
 
 
 def clamped(blue_scale, zones):

@@ -11,7 +11,7 @@ pub unsafe extern "C" fn spoonglacier_run(
 ) -> u32 {
     let script = std::slice::from_raw_parts(script, length);
     let out = std::slice::from_raw_parts_mut(out, room);
-    let (number, at) = model::run(script, out, false);
+    let (number, at) = model::run(script, out);
     *place = at as usize;
     number as u32
 }

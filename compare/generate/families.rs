@@ -16,14 +16,17 @@ pub const FAMILIES: &[&str] = &[
     "mixed extremes",
     "damaged scripts",
     "small rooms",
+    "family lists in turn",
 ];
+/// The family whose scripts are not drawn, but written one after the other; it is the last.
+pub const IN_TURN: usize = FAMILIES.len() - 1;
 
 const UNIT: i32 = 65536;
 
 pub fn case(seed: u64, number: u64) -> Case {
     let mut numbers = Numbers::new(seed, number);
     let n = &mut numbers;
-    let family = (number % FAMILIES.len() as u64) as usize;
+    let family = (number % IN_TURN as u64) as usize;
     let fill = n.bits() as u32;
     let (script, room) = match family {
         0 => roomy(n, plausible),

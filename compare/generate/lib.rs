@@ -1,11 +1,17 @@
-//! Scripts to compare on, in named families. A case is given by a seed and its number alone.
+//! Scripts to compare on, in named families. A case that is drawn is given by a seed and its number alone.
 
 pub mod batch;
 pub mod families;
+pub mod in_turn;
 pub mod parts;
 
-pub use families::{case, FAMILIES};
+pub use families::{case, FAMILIES, IN_TURN};
 pub use parts::{Command, Script};
+
+/// The first cases that are drawn, then those that are written in turn.
+pub fn cases(seed: u64, count: u64) -> impl Iterator<Item = Case> {
+    (0..count).map(move |number| case(seed, number)).chain(in_turn::in_turn())
+}
 
 /// A script with the words that it is lent.
 #[derive(Clone)]

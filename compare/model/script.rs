@@ -106,8 +106,7 @@ pub fn check(script: &[u8]) -> Result<Checked<'_>, Refusal> {
 }
 
 /// Runs a script into the lent words and answers number and place.
-/// With `amended` the zones follow change request 4 as well.
-pub fn run(script: &[u8], out: &mut [i32], amended: bool) -> (i32, i32) {
+pub fn run(script: &[u8], out: &mut [i32]) -> (i32, i32) {
     let checked = match check(script) {
         Ok(checked) => checked,
         Err((number, place)) => return (number, place as i32),
@@ -115,7 +114,7 @@ pub fn run(script: &[u8], out: &mut [i32], amended: bool) -> (i32, i32) {
     if !see(room_for_header, out.len() >= 4) {
         return (NO_ROOM, checked.first as i32);
     }
-    let zones = Zones::new(&checked.parameters, checked.scale, amended);
+    let zones = Zones::new(&checked.parameters, checked.scale);
     let mut drawing = Drawing::new(zones, checked.scale);
     let words = &checked.words;
     let mut free = 4;

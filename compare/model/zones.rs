@@ -73,8 +73,7 @@ fn nearest_height(flat: i32, heights: impl Iterator<Item = i32>, limit: i32) -> 
 }
 
 impl Zones {
-    /// With `amended` the zones follow change request 4 as well.
-    pub fn new(given: &Parameters, scale: i32, amended: bool) -> Zones {
+    pub fn new(given: &Parameters, scale: i32) -> Zones {
         let mut made = Zones {
             em_box: false,
             suppress: false,
@@ -116,14 +115,12 @@ impl Zones {
                 let tops = given.family_other_blues.iter().map(|pair| pair.1);
                 let best = nearest_height(own, tops, limit);
                 let first = given.family_blues.first().map(|pair| (pair.1, abs(sub(own, pair.1))));
-                let closer =
-                    first.filter(|&(_, distance)| distance < limit && best.is_none_or(|(_, least)| distance < least));
-                see(first_family_blue_would_move, closer.is_some());
-                if amended {
-                    closer.or(best)
-                } else {
-                    best
-                }
+                let closer = first.filter(|&(_, distance)| {
+                    see(first_family_blue_counts, distance < limit)
+                        && see(first_family_blue_is_nearer, best.is_none_or(|(_, least)| distance < least))
+                });
+                see(first_family_blue_after_zero, closer.is_some() && best.is_some_and(|(_, least)| least == 0));
+                closer.or(best)
             } else {
                 see(family_for_top_zone, given.family_blues.len() > 1);
                 nearest_height(own, given.family_blues.iter().skip(1).map(|pair| pair.0), limit)

@@ -46,8 +46,8 @@ pub fn check() -> bool {
         must("stem 16 to 80", heights == [32_768, 65_536, 131_072, 196_608]);
     }
     let given = Parameters { blue_scale: 2597, ..Parameters::default() };
-    must("boost at scale 2048", Zones::new(&given, 2048, false).boost == 8313);
-    must("boost at scale 1", Zones::new(&given, 1, false).boost == 32_767);
+    must("boost at scale 2048", Zones::new(&given, 2048).boost == 8313);
+    must("boost at scale 1", Zones::new(&given, 1).boost == 32_767);
     must("output", [1023, 1024, -1].map(numbers::output) == [0, 1024, -1024]);
     must("round", numbers::round(-32_768) == 0);
     must("product", numbers::mul(-1, 32_768) == -1);

@@ -39,10 +39,10 @@ fn usage() -> ! {
     eprintln!("       compare program COUNT COMMAND    a program that reads one script, with the model and the Rust");
     eprintln!("       compare detect COUNT COMMAND     the first case on which such a command differs from the Rust");
     eprintln!("       compare once SIDE                reads one script and answers like the program");
-    eprintln!("       compare answer SIDE              speaks the protocol; SIDE: model, amended, stand-in or fetched");
+    eprintln!("       compare answer SIDE              speaks the protocol; SIDE: model, stand-in or fetched");
     eprintln!("       compare reduce FILE              the smallest script near FILE on which model and Rust differ");
     eprintln!(
-        "       compare sample COUNT SIZE FILE   chooses SIZE cases among COUNT and writes them with their answers"
+        "       compare sample COUNT SIZE OLD NEW  keeps the cases of OLD, adds to SIZE among COUNT, and writes NEW"
     );
     eprintln!("       compare coverage COUNT           which places of the Rust file are reached");
     eprintln!(
@@ -65,7 +65,7 @@ fn main() {
         ["answer", side] => generate::batch::serve(sides::by_name(side).unwrap_or_else(|| usage()).run),
         ["once", side] => sides::once(sides::by_name(side).unwrap_or_else(|| usage())),
         ["reduce", file] => reduce::file(file),
-        ["sample", number, size, file] => sample::write(seed(), count(number), count(size) as usize, file),
+        ["sample", number, size, old, new] => sample::write(seed(), count(number), count(size) as usize, old, new),
         ["coverage", number] => coverage::print(seed(), count(number)),
         _ => usage(),
     };

@@ -1,10 +1,12 @@
-//! Chooses a small sample of cases that shows all that a whole run shows, and writes it with its answers.
+//! Keeps the cases of a stored sample, adds those that it needs to show all that a whole run shows, and writes them
+//! with their answers.
 
 use crate::coverage::bits;
 use crate::sides::{self, Answer};
-use generate::{case, Case, FAMILIES};
+use generate::{case, Case, FAMILIES, IN_TURN};
 use model::branch;
 use std::collections::{BTreeMap, BTreeSet};
+use std::fs;
 
 /// How many of the shortest cases are kept for each thing that a case can show.
 const KEPT: usize = 3;
@@ -24,8 +26,6 @@ enum Shown {
     Block(usize),
     /// An answer's number, what stands at its place, and in which family.
     Ending(i32, i32, usize),
-    /// A difference between 01 and the Rust, in a family.
-    Difference(usize),
 }
 
 /// A word of a script.
@@ -74,9 +74,6 @@ fn shown(case: &Case) -> (BTreeSet<Shown>, Answer) {
     let ours = sides::MODEL.answer(case);
     all.extend(bits(&branch::take()).into_iter().map(Shown::Branch));
     all.insert(Shown::Ending(ours.number, ending(case, &ours), case.family));
-    if ours != sides::oracle().answer(case) {
-        all.insert(Shown::Difference(case.family));
-    }
     (all, ours)
 }
 
@@ -95,8 +92,8 @@ fn keep(list: &mut Vec<(usize, u64)>, entry: (usize, u64)) {
 
 /// Adds the first short cases of each family, until it has its share or there are no more.
 fn fill_up(chosen: &mut BTreeSet<u64>, seed: u64, count: u64, share: usize) {
-    let of = |number: &u64| (number % FAMILIES.len() as u64) as usize;
-    let mut have = vec![0; FAMILIES.len()];
+    let of = |number: &u64| (number % IN_TURN as u64) as usize;
+    let mut have = vec![0; IN_TURN];
     chosen.iter().for_each(|number| have[of(number)] += 1);
     for number in 0..count {
         if have[of(&number)] < share && length(&case(seed, number)) <= SHORT && chosen.insert(number) {
@@ -118,13 +115,39 @@ fn written(case: &Case, mark: i32, answer: &Answer) -> Vec<i32> {
     words
 }
 
-pub fn write(seed: u64, count: u64, size: usize, file: &str) -> bool {
+/// What tells a case from all others: script, room and fill.
+type Given = (Vec<u8>, usize, u32);
+
+/// The cases of a stored sample. A file that is empty has none.
+fn stored(file: &str) -> BTreeSet<Given> {
+    let bytes = fs::read(file).unwrap_or_else(|error| crate::cannot(&format!("sample: {file}: {error}")));
+    let mut found = BTreeSet::new();
+    let mut at = 4;
+    while at < bytes.len() {
+        let head = |next: i32| word(&bytes[at..], next);
+        let (size, room) = (head(0) as usize, head(1) as usize);
+        let script = at + 24;
+        found.insert((bytes[script..script + size].to_vec(), room, head(2) as u32));
+        at = script + 4 * (size.div_ceil(4) + room);
+    }
+    found
+}
+
+pub fn write(seed: u64, count: u64, size: usize, stored_file: &str, file: &str) -> bool {
+    let kept = stored(stored_file);
+    let mut chosen = BTreeSet::new();
+    let mut shown_by_kept = BTreeSet::new();
     let mut shortest: BTreeMap<Shown, Vec<(usize, u64)>> = BTreeMap::new();
     let mut too_long = BTreeSet::new();
     for number in 0..count {
         let case = case(seed, number);
         let fits = case.script.len() <= SCRIPT && case.room <= ROOM;
-        for each in shown(&case).0 {
+        let all = shown(&case).0;
+        if kept.contains(&(case.script.clone(), case.room, case.fill)) {
+            chosen.insert(number);
+            shown_by_kept.extend(all.clone());
+        }
+        for each in all {
             if fits {
                 keep(shortest.entry(each).or_default(), (length(&case), number));
             } else {
@@ -132,31 +155,36 @@ pub fn write(seed: u64, count: u64, size: usize, file: &str) -> bool {
             }
         }
     }
-    let mut chosen: BTreeSet<u64> = shortest.values().flatten().map(|entry| entry.1).collect();
-    let needed = chosen.len();
-    fill_up(&mut chosen, seed, count, size.div_ceil(FAMILIES.len()));
+    if chosen.len() != kept.len() {
+        crate::cannot(&format!("sample: {stored_file} has cases that are not among these scripts"));
+    }
+    let missing = shortest.iter().filter(|(each, _)| !shown_by_kept.contains(each));
+    chosen.extend(missing.flat_map(|(_, entries)| entries.iter().map(|entry| entry.1)));
+    let needed = chosen.len() - kept.len();
+    fill_up(&mut chosen, seed, count, size.div_ceil(IN_TURN));
     let mut words = vec![chosen.len() as i32];
     let mut marked = 0;
-    let mut families = vec![0; FAMILIES.len()];
+    let mut families = vec![0; IN_TURN];
     let mut covered: BTreeSet<Shown> = BTreeSet::new();
     for &number in &chosen {
         let case = case(seed, number);
         let (all, ours) = shown(&case);
-        let mark = all.contains(&Shown::Difference(case.family)) as i32;
+        let mark = (ours != sides::oracle().answer(&case)) as i32;
         covered.extend(all);
         families[case.family] += 1;
         marked += mark;
         words.extend(written(&case, mark, &ours));
     }
     let bytes: Vec<u8> = words.iter().flat_map(|word| word.to_le_bytes()).collect();
-    if let Err(error) = std::fs::write(file, &bytes) {
+    if let Err(error) = fs::write(file, &bytes) {
         crate::cannot(&format!("sample: {file}: {error}"));
     }
     let of = |kind: fn(&Shown) -> bool| covered.iter().filter(|each| kind(each)).count();
     println!(
-        "{} cases in {} bytes: {needed} for what {count} scripts show, the rest to fill each family up.",
+        "{} cases in {} bytes: {} kept, {needed} for what {count} scripts show, the rest to fill each family up.",
         chosen.len(),
-        bytes.len()
+        bytes.len(),
+        kept.len()
     );
     println!(
         "They show {} branches of the model, {} blocks of the Rust file and {} endings; the Rust differs on {marked}.",
@@ -168,5 +196,5 @@ pub fn write(seed: u64, count: u64, size: usize, file: &str) -> bool {
     for (name, cases) in FAMILIES.iter().zip(families) {
         println!("  {name}: {cases}");
     }
-    covered.len() == shortest.len()
+    covered.len() == shortest.len() && marked == 0
 }

@@ -19,18 +19,8 @@ pub struct Answer {
     pub words: Vec<i32>,
 }
 
-fn model_run(script: &[u8], out: &mut [i32]) -> (i32, i32) {
-    model::run(script, out, false)
-}
-
-fn amended_run(script: &[u8], out: &mut [i32]) -> (i32, i32) {
-    model::run(script, out, true)
-}
-
-/// The paper as printed.
-pub const MODEL: Side = Side { name: "model", run: model_run };
-/// The paper with change request 4.
-pub const AMENDED: Side = Side { name: "amended", run: amended_run };
+/// The paper, with what change requests amended.
+pub const MODEL: Side = Side { name: "model", run: model::run };
 /// The Rust file over numbers after 01.
 pub const STAND_IN: Side = Side { name: "stand-in", run: oracle_stand_in::run };
 /// The Rust file over the fetched packages.
@@ -44,7 +34,7 @@ pub fn oracle() -> Side {
 }
 
 pub fn by_name(name: &str) -> Option<Side> {
-    [Some(MODEL), Some(AMENDED), Some(STAND_IN), FETCHED].into_iter().flatten().find(|side| side.name == name)
+    [Some(MODEL), Some(STAND_IN), FETCHED].into_iter().flatten().find(|side| side.name == name)
 }
 
 impl Side {

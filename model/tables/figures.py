@@ -218,6 +218,29 @@ def families():
     yield in_bits([(0, 0), (7, 9)], [], [(0, 0), (8, 0), (wrapped(LOW + 7), 0), (7, 0)], [(0, LOW), (0, 0)]), 1024
     for scale in [1, 2, 3]:
         yield in_bits([(-5, 0), (7, 9)], [], [(0, 0), (7, 0)], [(0, 0), (0, LOW), (0, 3)]), scale
+    yield from first_of_the_family(ties, tops)
+
+
+def first_of_the_family(ties, tops):
+    """The first family blue, for a bottom zone that is flat at 0, another one and a top zone."""
+    edge = 64 * ONE
+    # Too far, so that ties and limits are those of the family other blues.
+    yield font([(-10, 0), (500, 512)], family=[(0, 300), (502, 0)], family_others=ties), 1024
+    yield in_bits([(-ONE, 0)], [(-ONE, 1)], [(0, 2 * edge)], tops), 1024
+    # Its top, with its bottom above it, and without: nothing else of it counts, and not the second one.
+    for first in [(5, 1), (0, 63), (0, 64), (0, -64), (1, 300)]:
+        yield font([(-10, 0), (500, 512)], [(-9, 2)], [first, (90, 3)]), 1024
+    yield font([(-10, 0), (500, 512)], family=[(501, 501), (800, 1)]), 1024
+    # Nearer than the best so far, as near, and a bit less near.
+    for top in [ONE - 1, ONE, -ONE, 1 - ONE, -ONE - 1]:
+        yield in_bits([(-ONE, 0)], [], [(0, top)], [(0, 3 * ONE), (0, -ONE), (0, ONE)]), 1024
+    # After a distance of 0, where nothing but a distance that wraps is nearer; after one that wraps, nothing is.
+    for top in [0, 1, LOW]:
+        yield in_bits([(0, 0)], [], [(0, top)], [(0, 9), (0, 0), (0, LOW)]), 1024
+    yield in_bits([(0, 0)], [], [(0, 0)], [(0, LOW), (0, 0)]), 1024
+    # A limit of 0, of -2^31 bits, and of 2^32/3 bits, wrapped.
+    for scale in [1, 2, 3]:
+        yield in_bits([(0, 0)], [], [(0, LOW)], [(0, 9)]), scale
 
 
 def scales():

@@ -1,8 +1,8 @@
 """Tables of whole scripts.
 
-The answers of the first table are worked by hand. In the next eight numbers and places are; what is
-written there, and all of the last three, comes from the model's script.py. Scripts are made by
-hand, and some of the damage comes from the seed below.
+The answers of the first and the last table are worked by hand. In those from the second to the
+ninth numbers and places are; what is written there, and all of the other three, comes from the
+model's script.py. Scripts are made by hand, and some of the damage comes from the seed below.
 """
 
 import random
@@ -15,7 +15,7 @@ from .form import packed
 from .marked import WHOLE_RECORDS, WHOLE_RESULT
 from .scripts_form import AMPLE, answered, byte, length, model_case, word, worked_case
 from .scripts_good import (
-    BOX, EMPTY, FULL, GOOD, LETTER, LETTER_KINDS, MASKED, PATHS, READINGS, WHOLE, padded_bytes,
+    BOX, EMPTY, FULL, GOOD, LETTER, LETTER_KINDS, LOOKS, MASKED, PATHS, READINGS, WHOLE, padded_bytes,
 )
 
 SEED = 1013
@@ -97,8 +97,15 @@ def damage():
         yield LETTER, [byte(random.randrange(112, 4 * len(LETTER)), random.randrange(256))]
 
 
+def looks():
+    """A move, a line, a close and an end, with both points at x = 0."""
+    for script, bottom, top in LOOKS:
+        records = [1, 0, bottom * ONE, 2, 0, top * ONE, 4, 5]
+        yield script, AMPLE, OK, 0, 0, [1, 4, 4, len(records), *records]
+
+
 def tables():
     random.seed(SEED)
-    worked = [worked_case(*case) for case in whole()]
+    worked, looked = [[worked_case(*case) for case in cases()] for cases in [whole, looks]]
     answered_by_model = [[model_case(*case) for case in cases()] for cases in [rooms, glyphs, damage]]
-    return [worked, *scripts_refused.tables(), *answered_by_model]
+    return [worked, *scripts_refused.tables(), *answered_by_model, looked]

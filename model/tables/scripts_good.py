@@ -4,7 +4,7 @@ from ..calls import CLEAR, CLOSE, COUNTER_MASK, CURVE, FINISH, HINT_MASK, LINE, 
 from ..numbers import LOW, ONE, bits
 from ..script import HEADER_WORDS, OPERANDS, SCRIPT_VERSION, words_of
 from . import fonts
-from .fonts import PLAIN, font, param_words
+from .fonts import PLAIN, font, in_bits, param_words
 from .marked import WHOLE_SCRIPT
 
 
@@ -101,4 +101,33 @@ READINGS = [
         1, 2048, 8, 8, 16, 22, 38, 1, 2597, 458752, 65536, 0, 0, 0, 0, 0, 1, 1048576, 5242880, 5, 0, 0, 1, 6553600,
         7864320, 2, 0, 1, 1, 13107200, 17321504, 5, 0, 13107200, 6, 0, 17321504, 9, 192,
     ],
+]
+
+
+def looking(family, others=()):
+    """A point on each flat edge, 0 of a bottom zone and 500 of a top zone, where a pixel has some 25 units."""
+    params = in_bits([bits(-10, 0), bits(500, 512)], [], family, others)
+    return script_of(params, 2596, (STEM, 0, 100), (STEM, 400, 500), (MOVE, 0, 0), (LINE, 0, 500), (FINISH,))
+
+
+# Request 4: family blues and family other blues, and the heights of both points on the device, in pixels.
+LOOKS = [
+    # The first family blue alone: its top moves the bottom zone, whatever its height is; its bottom does not, nor
+    # does the second. The top zone looks at neither end of it.
+    (looking([bits(-30, -20)]), -1, 20),
+    (looking([bits(40, 20)]), 1, 20),
+    (looking([bits(20, 300)]), 0, 20),
+    (looking([bits(0, 300), bits(800, 20)]), 0, 20),
+    (looking([bits(520, 520), bits(800, 300)]), 0, 20),
+    # A bit less than a pixel away, and a pixel.
+    (looking([(0, 1654455)]), 1, 20),
+    (looking([(0, 1654456)]), 0, 20),
+    # After family other blues: nearer, as near, and not as near.
+    (looking([bits(0, -14)], [bits(0, 20)]), -1, 20),
+    (looking([bits(0, -20)], [bits(0, 20)]), 1, 20),
+    (looking([bits(0, 20)], [bits(0, -14)]), -1, 20),
+    (looking([bits(0, -20)], [bits(0, 300)]), -1, 20),
+    # After a distance of 0, which ended the search: at 20, and where the distance wraps to -32768.0.
+    (looking([bits(0, 20)], [bits(0, 0)]), 0, 20),
+    (looking([(0, LOW)], [bits(0, 0), (0, LOW)]), -1298, 20),
 ]

@@ -16,7 +16,7 @@ use Rattle.stems.specs.Edge.{shapeOf, edgeOf, setupOf}
 use Rattle.stems.specs.Mask.{maskOf, isActive, cleared, sameBytes}
 use Rattle.zones.specs.Capture.{holds, firstHolding, bottomGoal, topGoal, captureMove, lifted, captureOf}
 use Rattle.zones.specs.State.{emBox, clampedScale, boostOf, stateOf}
-use Rattle.zones.specs.Zones.{sift, bluesZones, kept, greatestFrom, nearer, nearestFrom, nearestOf, movedFlat}
+use Rattle.zones.specs.Zones.{sift, bluesZones, kept, greatestFrom, nearer, nearestFrom, nearestOf, firstToo, movedFlat}
 use Rattle.zones.specs.Zones.{deviceFlat, keptIn, readIn}
 use Rattle.test_figures.specs.Starred.{rows, AllHold}
 
@@ -28,7 +28,7 @@ unfolding toNext movesOf roomUp roomDown choiceOf noteOf movedHint settleOf resc
     chosen mayEnter bars tooHigh again putEdges outcomeOf insertIn leading lastOf line mapOf clearAhead clearBehind
     Past Made shapeOf edgeOf setupOf maskOf isActive cleared sameBytes holds firstHolding bottomGoal topGoal
     captureMove lifted captureOf emBox clampedScale boostOf stateOf sift bluesZones kept greatestFrom nearer
-    nearestFrom nearestOf movedFlat deviceFlat keptIn readIn
+    nearestFrom nearestOf firstToo movedFlat deviceFlat keptIn readIn
 starred = (
   refl,
   (

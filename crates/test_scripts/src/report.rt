@@ -71,6 +71,7 @@ pub(crate) fn scripts(file: i32) {
     tally = table(b"rooms", file, tally.again);
     tally = table(b"glyphs", file, tally.again);
     tally = table(b"damaged copies", file, tally.again);
+    tally = table(b"the first family blue", file, tally.again);
     end(file);
     let again = tally.again;
     again.say();

@@ -13,7 +13,7 @@ use Rattle.zones.specs.declared.blues.Blue.{Blue}
 use Rattle.zones.specs.declared.blues.BlueZone.{BlueZone}
 use Rattle.zones.specs.declared.blues.Zones.{Zones}
 use Rattle.zones.specs.declared.blues.Nearest.{Nearest}
-use Rattle.zones.specs.Zones.{noBlue, familyEdge, nearer, nearestFrom}
+use Rattle.zones.specs.Zones.{noBlue, familyEdge, nearer, nearestFrom, firstToo}
 use Rattle.zones.proofs.Taken.{taken-more, taken-ends}
 
 -- the search from pair i on, among the first n
@@ -44,6 +44,17 @@ module _ (side : Side) (bs : List Blue) (n : ℕ) (fits : n ≤ length bs) (flat
     pub search-ends : n ≤ i → searchFrom side bs n flat limit near i ≡ near
     unfolding nearestFrom
     search-ends l = rw (taken-ends n bs fits i l)
+
+-- the look at the first of n pairs, where there is none and where there is one
+module _ (flat limit : Fixed) (near : Nearest) where
+  pub first-none : (n : ℕ) (bs : List Blue) → n ≡ 0 → firstToo flat limit near (take n bs) ≡ near
+  unfolding firstToo
+  first-none n bs e = rw e
+
+  pub first-some : (n : ℕ) (bs : List Blue) → 0 < n → 0 < length bs →
+      firstToo flat limit near (take n bs) ≡ nearer flat limit near (getD bs 0 noBlue .top)
+  unfolding firstToo
+  first-some (suc n) (b ∷ bs) some l = refl
 
 -- the zones before i changed alike; at the count this is `eachIn`
 abbrev pub eachBefore : (BlueZone → BlueZone) → Zones → ℕ → Zones

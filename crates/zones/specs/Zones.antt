@@ -114,9 +114,14 @@ unmoved flat = record { edge = flat; diff = MAX }
 unfoldable pub nearestOf : Side → Blues → Fixed → Fixed → Nearest
 nearestOf side bs flat limit = nearestFrom flat limit (unmoved flat) (familyEdges side bs)
 
--- a bottom zone looks at the family's other blues, a top zone at its blues
+-- what a search found, or the top of the first of some pairs, if there is one and it is nearer
+unfoldable pub firstToo : Fixed → Fixed → Nearest → List Blue → Nearest
+firstToo flat limit n [] = n
+firstToo flat limit n (b ∷ bs) = nearer flat limit n (b .top)
+
+-- a bottom zone looks at the family's other blues, then at its first blue; a top zone at its blues
 abbrev pub familyNearest : Bool → Blues → Blues → Fixed → Fixed → Nearest
-familyNearest true others blues flat limit = nearestOf Bottom others flat limit
+familyNearest true others blues flat limit = firstToo flat limit (nearestOf Bottom others flat limit) (listOf blues)
 familyNearest false others blues flat limit = nearestOf Top blues flat limit
 
 abbrev pub withFlat : BlueZone → Fixed → BlueZone

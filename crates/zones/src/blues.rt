@@ -116,14 +116,19 @@ impl BlueZone {
         }
     }
 
-    // From `build_zones`: the flat edge moved to the family's nearest.
+    // From `build_zones`: the flat edge moved to the family's nearest. A bottom zone looks at the
+    // first of the blues too, however its search ended.
     pub(crate) fn by_family(self, others: Blues, blues: Blues, limit: Fixed) -> BlueZone
         ensures { λ r. ⌜ r ≡ movedFlat others blues limit self ⌝ }
     {
         let flat = self.cs_flat_edge;
         let mut zone = self;
         if self.is_bottom {
-            let near = others.nearest(flat, limit, Side::Bottom);
+            let mut near = others.nearest(flat, limit, Side::Bottom);
+            if blues.count != 0 {
+                let first = blues.pairs[0];
+                near = near.with(flat, limit, first.top);
+            }
             let edge = near.edge;
             zone.cs_flat_edge = edge;
             return zone;
