@@ -13,7 +13,8 @@ const TOP_FLAT: i32 = 500 * UNIT;
 /// A pixel has some 25 units, and overshoot is suppressed with next to no boost.
 const SCALE: i32 = 2596;
 const BLUE_SCALE: i32 = 2597;
-/// Edges about the bottom zone's flat edge: at it, two as near, one nearer, one a pixel off, one at a distance that wraps.
+/// Edges about the bottom zone's flat edge: at it, two at one distance, one nearer, one too far, one at a distance
+/// that wraps.
 const ABOUT_BOTTOM: [i32; 6] = [0, 20 * UNIT, -20 * UNIT, -14 * UNIT, 30 * UNIT, i32::MIN];
 /// Edges of the second family blue: bottoms about the top zone's flat edge, tops near the bottom zone's and far.
 const SECOND_BOTTOMS: [i32; 4] = [TOP_FLAT, 520 * UNIT, 480 * UNIT, 800 * UNIT];
@@ -45,12 +46,14 @@ fn script(family_blues: Vec<Pair>, family_others: Vec<Pair>) -> Script {
     made
 }
 
+/// Family other blues are looked at for their tops alone. The first family blue has both ends about either flat edge.
 pub fn in_turn() -> impl Iterator<Item = Case> {
-    let others = pairs(&[0], &ABOUT_BOTTOM);
+    let other = pairs(&[0], &ABOUT_BOTTOM);
+    let others = lists(&other, &other);
     let ends = [&ABOUT_BOTTOM[..], &[TOP_FLAT]].concat();
     let blues = lists(&pairs(&ends, &ends), &pairs(&SECOND_BOTTOMS, &SECOND_TOPS));
-    let others = lists(&others, &others);
-    let scripts =
-        blues.into_iter().flat_map(move |blues| others.clone().into_iter().map(move |o| script(blues.clone(), o)));
-    scripts.map(|script| Case { family: IN_TURN, room: script.most_words(), script: script.bytes(), fill: 0 })
+    blues.into_iter().flat_map(move |of_blues| {
+        let made = others.clone().into_iter().map(move |of_others| script(of_blues.clone(), of_others));
+        made.map(|script| Case { family: IN_TURN, room: script.most_words(), script: script.bytes(), fill: 0 })
+    })
 }

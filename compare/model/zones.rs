@@ -114,19 +114,22 @@ impl Zones {
                 see(family_for_bottom_zone, !given.family_other_blues.is_empty());
                 let tops = given.family_other_blues.iter().map(|pair| pair.1);
                 let best = nearest_height(own, tops, limit);
-                let first = given.family_blues.first().map(|pair| (pair.1, abs(sub(own, pair.1))));
-                let closer = first.filter(|&(_, distance)| {
+                let (searched, least) = (best.map(|found| found.0), best.map_or(i32::MAX, |found| found.1));
+                let first = given.family_blues.first().map(|pair| pair.1);
+                let closer = first.filter(|&height| {
+                    let distance = abs(sub(own, height));
                     see(first_family_blue_counts, distance < limit)
-                        && see(first_family_blue_is_nearer, best.is_none_or(|(_, least)| distance < least))
+                        && see(first_family_blue_is_nearer, distance < least)
                 });
-                see(first_family_blue_after_zero, closer.is_some() && best.is_some_and(|(_, least)| least == 0));
-                closer.or(best)
+                see(first_family_blue_after_zero, closer.is_some() && least == 0);
+                closer.or(searched)
             } else {
                 see(family_for_top_zone, given.family_blues.len() > 1);
-                nearest_height(own, given.family_blues.iter().skip(1).map(|pair| pair.0), limit)
+                let bottoms = given.family_blues.iter().skip(1).map(|pair| pair.0);
+                nearest_height(own, bottoms, limit).map(|found| found.0)
             };
-            if see(family_moved_flat_edge, found.is_some_and(|(height, _)| height != own)) {
-                zone.flat = found.unwrap().0;
+            if see(family_moved_flat_edge, found.is_some_and(|height| height != own)) {
+                zone.flat = found.unwrap();
             }
         }
 

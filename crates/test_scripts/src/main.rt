@@ -1,7 +1,7 @@
 // Runs scripts whose answers are stored, and says of each table how many were run and how many
 // differ: tables made from 01, and a sample of the comparison with the Rust. Of the sample it says
-// too how many end with each of 01's numbers, and on how many the Rust differs from 01. Of both it
-// says how many scripts are the same bytes when they are read back and written again.
+// too how many end with each of 01's numbers, and to how many the Rust answers otherwise. Of both
+// it says how many scripts are the same bytes when they are read back and written again.
 mod again;
 mod again_tally;
 mod cases;
@@ -14,8 +14,8 @@ fn main() {
 }
 
 // `python3 -m model` makes this file, from model/tables/scripts.py. The answers of the first table
-// are worked by hand from 01. Numbers and places of the next eight are written by hand from its
-// table; the rest comes from model/script.py.
+// are worked by hand from 01, those of the last from request 4. Numbers and places of the second to
+// the ninth are written by hand from 01's table; the rest comes from model/script.py.
 fn tables() {
     let file = os::open_read(b"scripts.bin");
     if file < 0 {

@@ -287,8 +287,8 @@ impl Blues {
     }
 }
 
-// The first pair of a family's list that counts: of the other blues the first, of the blues the
-// second.
+// The first pair of a family's list that a search takes: of the other blues the first, of the blues
+// the second.
 fn first_for(side: Side) -> usize
     ensures { λ r. ⌜ r ≡ familyFrom side ⌝ }
 {

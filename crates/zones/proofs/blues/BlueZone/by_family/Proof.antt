@@ -1,4 +1,4 @@
--- `BlueZone::by_family` meets its contract, by the test. Assumes nothing.
+-- `BlueZone::by_family` meets its contract, by the two tests. Assumes nothing.
 use mathlib.Core.Path.{_≡_, sym, _∙_}
 use mathlib.Core.Logic.{⊎-elim}
 use native.Mathlib.Omega.{arith}
@@ -9,10 +9,11 @@ use borrow.Author.Needs.{needs}
 use Rattle.zones.proofs.blues.BlueZone.by_family.Statement.{statement}
 use Rattle.zones.proofs.blues.BlueZone.by_family.Tie as tie
 
--- what the search found is looked at once more, or there is no first blue
+-- after the search the first of the blues is looked at, if there is one
 looked : (c : tie.Joined2) →
     let given = c .before .before .before .before .args in
-    c .if2 .near ≡ firstToo (given .self .«cs_flat_edge») (given .limit) (c .before .nearest .result) (listOf (given .t3))
+    c .if2 .near ≡
+    firstToo (given .self .«cs_flat_edge») (given .limit) (c .before .nearest .result) (listOf (given .t3))
 looked c =
     let start = c .before .before .before .before in
     let bs = start .args .t3 in
@@ -34,4 +35,5 @@ returns-2 c = rw (c .before .before .if1 .left, c .before .nearest2 .ensures)
 pub by-family-spec : {M : Type 1} → statement M
 by-family-spec =
     tie.close
-    (tie.spec (λ c κs. search needs) (λ c. search needs) (λ c κs. search needs) returns (λ c κs. search needs) returns-2)
+    (tie.spec (λ c κs. search needs) (λ c. search needs) (λ c κs. search needs) returns (λ c κs. search needs)
+    returns-2)
