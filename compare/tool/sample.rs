@@ -28,10 +28,10 @@ enum Shown {
     Ending(i32, i32, usize),
 }
 
-/// A word of a script.
-fn word(script: &[u8], place: i32) -> i32 {
+/// A word of a script or a sample.
+fn word(bytes: &[u8], place: i32) -> i32 {
     let at = 4 * place as usize;
-    i32::from_le_bytes(script[at..at + 4].try_into().unwrap())
+    i32::from_le_bytes(bytes[at..at + 4].try_into().unwrap())
 }
 
 /// What tells refusals of one number apart: the place, or the kind of command at it.
