@@ -17,12 +17,13 @@ extern "C" {
 
 /* The version. A name that stands in this file keeps its meaning for good, so a program that builds
    with one version builds with every later one. The first number counts changes of the rules, after
-   which some scripts have other answers (docs/RULES.md tells which); the second, releases that
-   add names; the third, all other releases. */
-#define SPOONGLACIER_VERSION_MAJOR 0
-#define SPOONGLACIER_VERSION_MINOR 3
+   which some scripts have other answers (docs/RULES.md tells which); the second, releases since
+   then that add names; the third, all other releases since then. From 1 on a bottom zone looks at
+   the first family blue too (rules Z8 and Z10). */
+#define SPOONGLACIER_VERSION_MAJOR 1
+#define SPOONGLACIER_VERSION_MINOR 0
 #define SPOONGLACIER_VERSION_PATCH 0
-#define SPOONGLACIER_VERSION "0.3.0"
+#define SPOONGLACIER_VERSION "1.0.0"
 
 /* What the functions answer. Places are those of spoonglacier_run and spoonglacier_edges;
    spoonglacier_write has its own below. */

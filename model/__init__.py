@@ -1,4 +1,4 @@
-"""A model of 01 and of 02's first two requests in Python, and the stored tables that it makes.
+"""A model of 01 and of 02's requests 1, 2 and 4 in Python, and the stored tables that it makes.
 
 Two commands, from the repository's root:
 
@@ -29,7 +29,8 @@ written there, so that every run makes the same bytes.
 
 What had been read before each part was written, which is what its agreement is worth:
 
-- stems.py, zones.py and the tests in script.py: 01 and the readings of it alone.
+- stems.py, zones.py and the tests in script.py: 01 and the readings of it alone. What zones.py has
+  of request 4: the request, the readings of it, and that step of the Rust.
 - writer.py: 02's first request, the readings of it, 01 and script.py alone.
 - edges.py: 02's second request, the readings of it and the model's other parts; the definitions and
   the code of the crate `listing` had been seen. The map that it lists is hintmap.py's.

@@ -1,6 +1,6 @@
 """Zones and capture (01, "Zones", with request 4 of 02).
 
-Written from 01 and the readings of it alone; what the request adds was written from it and its
+Written from 01 and the readings of it alone; what the request adds, from the request and its
 readings, with that step of the Rust read.
 """
 

@@ -158,7 +158,7 @@ fn totals(tally: Tally) {
     total(b"BAD_COMMAND", tally.numbers[4]);
     total(b"BAD_MASK", tally.numbers[5]);
     total(b"NO_ROOM", tally.numbers[6]);
-    total(b"marked, since 01 and the Rust differ", tally.marked);
+    total(b"marked, since the Rust answers otherwise", tally.marked);
 }
 
 fn total(name: &[u8], count: usize) {
