@@ -9,7 +9,7 @@ use borrow.Author.Needs.{needs}
 use Rattle.zones.proofs.blues.BlueZone.by_family.Statement.{statement}
 use Rattle.zones.proofs.blues.BlueZone.by_family.Tie as tie
 
--- after the search the first of the blues is looked at, if there is one
+-- after the search the first of the blues, which are `t3` here, is looked at, if there is one
 looked : (c : tie.Joined2) →
     let given = c .before .before .before .before .args in
     c .if2 .near ≡
