@@ -1,3 +1,4 @@
 pub mod Edges
+pub mod Places
 pub mod Unique
 pub mod Masks

@@ -1,5 +1,6 @@
 // Masks of active stems, stems, and the edges that a stem has (01, "Stems and masks").
 mod edge;
+mod lists;
 mod mask;
 
 pub use edge::Hint;
@@ -10,5 +11,17 @@ pub use edge::Shape;
 pub use edge::Side;
 pub use edge::StemHint;
 pub use edge::Stems;
+pub use lists::LINES;
+pub use lists::STEM_NUMBERS;
+pub use lists::TAGS;
+pub use lists::copy_edge;
+pub use lists::device_at;
+pub use lists::edge_at;
+pub use lists::height_at;
+pub use lists::put_edge;
+pub use lists::put_line;
+pub use lists::put_stem;
+pub use lists::scale_at;
+pub use lists::stem_at;
 pub use mask::HINT_MASK_SIZE;
 pub use mask::HintMask;

@@ -1,0 +1,67 @@
+-- Each number lies where it should. Assumes nothing.
+use Rattle.stems.specs.Lists.{setStem}
+use borrow.Author.Needs.{needs}
+use Rattle.stems.proofs.lists.put_stem.Statement.{statement}
+use Rattle.stems.proofs.lists.put_stem.Tie as tie
+
+use-mark-requires : tie.Need-use-mark-requires
+use-mark-requires c κs = search needs
+
+put-number-requires : tie.Need-put-number-requires
+put-number-requires c κs = search needs
+
+add-put-number : tie.Need-add-put-number
+add-put-number c = search needs
+
+put-number-requires-2 : tie.Need-put-number-requires-2
+put-number-requires-2 c κs = search needs
+
+add-put-number-2 : tie.Need-add-put-number-2
+add-put-number-2 c = search needs
+
+put-number-requires-3 : tie.Need-put-number-requires-3
+put-number-requires-3 c κs = search needs
+
+add-put-number-3 : tie.Need-add-put-number-3
+add-put-number-3 c = search needs
+
+put-number-requires-4 : tie.Need-put-number-requires-4
+put-number-requires-4 c κs = search needs
+
+add-put-number-4 : tie.Need-add-put-number-4
+add-put-number-4 c = search needs
+
+put-number-requires-5 : tie.Need-put-number-requires-5
+put-number-requires-5 c κs = search needs
+
+returns : tie.Need-returns
+unfolding setStem
+returns c =
+    let d = c .before .before in
+    let e = d .before .before in
+    let f = e .before .before in
+    let g = f .before .before in
+    rw (
+      c .put-number5 .ensures,
+      d .put-number4 .ensures,
+      e .put-number3 .ensures,
+      f .put-number2 .ensures,
+      g .put-number .ensures,
+      g .before .use-mark .ensures,
+    )
+
+pub put-stem-spec : {M : Type 1} → statement M
+put-stem-spec =
+    tie.close
+    (tie.spec
+    use-mark-requires
+    put-number-requires
+    add-put-number
+    put-number-requires-2
+    add-put-number-2
+    put-number-requires-3
+    add-put-number-3
+    put-number-requires-4
+    add-put-number-4
+    put-number-requires-5
+    returns)
