@@ -6,6 +6,7 @@ pub mod Alike
 pub mod Enter
 pub mod View
 pub mod Outcome
+pub mod Lent
 pub mod WholeStems
 pub mod Words
 pub mod Mapping

@@ -12,8 +12,6 @@ use Rattle.hintmap.proofs.insert.Edges.choose.Reads as choose-reads
 use Rattle.hintmap.proofs.map.HintMap.new.Reads as new-reads
 use Rattle.hintmap.proofs.map.HintMap.invalidate.Reads as invalidate-reads
 use Rattle.hintmap.proofs.map.HintMap.validate.Reads as validate-reads
-use Rattle.hintmap.proofs.map.HintMap.transform.Reads as transform-reads
-use Rattle.hintmap.proofs.map.HintMap.insert.Reads as insert-reads
 
 module _ (κs : Lfts 0) (r r′ : HintMap) where
   pub new-unique : (s : Fixed) → new-reads.Post κs (s, tt) r (s, tt) → new-reads.Post κs (s, tt) r′ (s, tt) → r ≡ r′
@@ -26,16 +24,6 @@ module _ (κs : Lfts 0) (r r′ : HintMap) where
 
     pub validate-unique : validate-reads.Post κs (m, tt) r (m, tt) → validate-reads.Post κs (m, tt) r′ (m, tt) → r ≡ r′
     validate-unique p q = p ∙ sym q
-
-    pub insert-unique : (e : Edges) (i : HintMap) (g : Bool) →
-        insert-reads.Post κs (m, (e, (i, (g, tt)))) r (m, (e, (i, (g, tt)))) →
-        insert-reads.Post κs (m, (e, (i, (g, tt)))) r′ (m, (e, (i, (g, tt)))) → r ≡ r′
-    insert-unique e i g p q = p ∙ sym q
-
-module _ (κs : Lfts 0) (m : HintMap) (h : Fixed) (r r′ : Fixed) where
-  pub transform-unique : transform-reads.Post κs (m, (h, tt)) r (m, (h, tt)) →
-      transform-reads.Post κs (m, (h, tt)) r′ (m, (h, tt)) → r ≡ r′
-  transform-unique p q = p ∙ sym q
 
 module _ (κs : Lfts 0) (h : Shape) (b t : Hint) (r r′ : Edges) where
   pub choose-unique : choose-reads.Post κs (h, (b, (t, tt))) r (h, (b, (t, tt))) →

@@ -1,3 +1,4 @@
 pub mod Map
 pub mod Insert
 pub mod WholeStems
+pub mod Lent

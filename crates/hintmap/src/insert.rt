@@ -1,16 +1,25 @@
 // Inserting a stem's edges.
-use crate::map::HintMap;
+use crate::heights::transform;
 use fixed::Fixed;
 use stems::Hint;
 use stems::LAST_HINT;
+use stems::LINES;
 use stems::MAX_HINTS;
 use stems::Shape;
+use stems::TAGS;
+use stems::copy_edge;
+use stems::edge_at;
+use stems::height_at;
+use stems::put_edge;
 ghost use mathlib.Core.Path.{_≡_};
-ghost use mathlib.Core.Bool.{true, not, _&&_};
+ghost use mathlib.Core.Bool.{true};
 ghost use Prim.Native.Nat.{_≤_};
 ghost use lib.ListN.{length};
-ghost use Rattle.hintmap.specs.Insert.{chosen, Valid, firstEdge, edgesOf, mayEnter, bars, tooHigh, under};
-ghost use Rattle.hintmap.specs.Insert.{middleOf, around, putEdges, outcomeOf, insertIn};
+ghost use Rattle.stems.specs.Edge.{maxHints};
+ghost use Rattle.stems.specs.Lists.{Whole};
+ghost use Rattle.hintmap.specs.Insert.{chosen, firstEdge, edgesOf, mayEnter, bars, tooHigh, under};
+ghost use Rattle.hintmap.specs.Insert.{middleOf, around};
+ghost use Rattle.hintmap.specs.Lent.{Rises, Lent, PlacedBy, Places, Comes, Entered, Inserted};
 
 // What is put in: one edge, or the two of a pair.
 pub enum Edges {
@@ -118,17 +127,6 @@ impl Edges {
         f.ds_coord.less(x.ds_coord)
     }
 
-    // Whether they are placed again: an initial map is given, and the first is not locked.
-    fn is_free(self, given: bool) -> bool
-        ensures { λ r. ⌜ r ≡ (not (firstEdge self .locked) && given) ⌝ }
-    {
-        let f = self.first();
-        if f.is_locked() {
-            return false;
-        }
-        given
-    }
-
     // The height that the initial map is asked for.
     fn middle(self) -> Fixed
         ensures { λ r. ⌜ r ≡ middleOf self ⌝ }
@@ -152,86 +150,109 @@ impl Edges {
             }
         }
     }
+
+    // Placed again by the lines of the initial map, with its own scale, unless the first is locked.
+    pub fn placed(
+        self,
+        initial: &[i32; LINES],
+        len: usize,
+        base: Fixed,
+        scale: Fixed,
+    ) -> Edges
+        requires { ⌜ len ≤ maxHints ⌝ }
+        ensures { λ r. ⌜ PlacedBy (now (initial .entry)) len base scale self r ⌝ }
+    {
+        let f = self.first();
+        if f.is_locked() {
+            return self;
+        }
+        self.around(transform(initial, len, base, self.middle()), scale)
+    }
 }
 
-impl HintMap {
-    // From `insert`: the place is before the first edge that is not under the edges, and the tests
-    // are of the edge there and of the one before.
-    fn outcome(self, e: Edges, initial: HintMap, given: bool) -> Outcome
-        ensures { λ r. ⌜ r ≡ outcomeOf self e initial given ⌝ }
-    {
-        let len = self.len;
-        if !e.may_enter(len) {
+// From `insert`: the place before the first edge that is not under a height. Edges stand in
+// never-falling height, and most stems are declared upward, so it is looked for from the last edge
+// down.
+fn place_of(lines: &[i32; LINES], len: usize, height: Fixed) -> usize
+    requires { ⌜ (len ≤ maxHints) × Rises (now lines) len ⌝ }
+    ensures { λ r. ⌜ (r ≤ len) × Places (now (lines .entry)) len height r ⌝ }
+{
+    let mut at = len;
+    while 0 < at {
+        if height_at(lines, at - 1).less(height) {
+            return at;
+        }
+        at -= 1;
+    }
+    0
+}
+
+// From `insert`: the tests are of the edge at the place and of the one before it.
+fn decide(lines: &[i32; LINES], tags: &[u8; TAGS], len: usize, e: Edges) -> Outcome
+    requires { ⌜ (len ≤ maxHints) × Rises (now lines) len ⌝ }
+    ensures { λ r. ⌜ Comes (now (lines .entry)) (now (tags .entry)) len e r ⌝ }
+{
+    if !e.may_enter(len) {
+        return Outcome::Dropped;
+    }
+    let f = e.first();
+    let at = place_of(lines, len, f.cs_coord);
+    if 0 < at {
+        let before = edge_at(lines, tags, at - 1);
+        if e.under(before) {
             return Outcome::Dropped;
         }
-        let f = e.first();
-        let mut at: usize = 0;
-        while at < len {
-            let x = self.edges[at];
-            if !x.cs_coord.less(f.cs_coord) {
-                break;
-            }
-            at += 1;
-        }
-        if at < len {
-            let x = self.edges[at];
-            if e.barred(x) {
-                return Outcome::Dropped;
-            }
-        }
-        let mut p = e;
-        if e.is_free(given) {
-            p = e.around(initial.transform(e.middle()), self.scale);
-        }
-        if 0 < at {
-            let before = self.edges[at - 1];
-            if p.under(before) {
-                return Outcome::Dropped;
-            }
-        }
-        if at < len {
-            let after = self.edges[at];
-            if p.too_high(after) {
-                return Outcome::Dropped;
-            }
-        }
-        Outcome::Enters(at, p)
     }
-
-    // From `insert`: edges are put at a place, and those from there on go up.
-    fn put(mut self, at: usize, e: Edges) -> HintMap
-        requires { ⌜ (at ≤ self .len) × (mayEnter (self .len) e ≡ true) ⌝ }
-        ensures { λ r. ⌜ r ≡ putEdges self at e ⌝ }
-    {
-        let n = e.count();
-        let mut k = self.len;
-        self.len = k + n;
-        while at < k {
-            k -= 1;
-            let x = self.edges[k];
-            self.edges[k + n] = x;
+    if at < len {
+        let x = edge_at(lines, tags, at);
+        if e.barred(x) {
+            return Outcome::Dropped;
         }
-        match e {
-            Edges::One(x) => {
-                self.edges[at] = x;
-            }
-            Edges::Two(b, t) => {
-                self.edges[at] = b;
-                self.edges[at + 1] = t;
-            }
+        if e.too_high(x) {
+            return Outcome::Dropped;
         }
-        self
     }
+    Outcome::Enters(at, e)
+}
 
-    // Ports `HintMap::insert`: edges that are there are put in, or dropped. The initial map counts
-    // where it is given.
-    pub fn insert(self, e: Edges, initial: HintMap, given: bool) -> HintMap
-        requires { ⌜ Valid e ⌝ }
-        ensures { λ r. ⌜ r ≡ insertIn self e initial given ⌝ }
-    {
-        match self.outcome(e, initial, given) {
-            Outcome::Enters(at, placed) => self.put(at, placed),
-            Outcome::Dropped => self,
+// From `insert`: edges are put at a place, and those from there on go up. Gives the new length.
+fn put(lines: &mut [i32; LINES], tags: &mut [u8; TAGS], len: usize, at: usize, e: Edges) -> usize
+    requires { ⌜ Whole (now lines) (now tags) × ((at ≤ len) × (mayEnter len e ≡ true)) ⌝ }
+    ensures { λ r. ⌜ Entered (now (lines .entry)) (now (tags .entry)) len at (edgesOf e) r (now (lines .exit))
+        (now (tags .exit)) ⌝ }
+{
+    let n = e.count();
+    let mut k = len;
+    while at < k {
+        k -= 1;
+        copy_edge(lines, tags, k, k + n);
+    }
+    match e {
+        Edges::One(x) => {
+            put_edge(lines, tags, at, x);
+            len + n
         }
+        Edges::Two(b, t) => {
+            put_edge(lines, tags, at, b);
+            put_edge(lines, tags, at + 1, t);
+            len + n
+        }
+    }
+}
+
+// Ports `HintMap::insert`, into the lists of a map: edges as they are placed are put in, or dropped.
+// Gives the new length.
+pub fn insert_edges(
+    lines: &mut [i32; LINES],
+    tags: &mut [u8; TAGS],
+    len: usize,
+    e: Edges,
+) -> usize
+    requires { ⌜ Lent (now lines) (now tags) len ⌝ }
+    ensures { λ r. ⌜ Inserted (now (lines .entry)) (now (tags .entry)) len e r (now (lines .exit)) (now (tags .exit)) ⌝ }
+{
+    match decide(lines, tags, len, e) {
+        Outcome::Enters(at, placed) => put(lines, tags, len, at, placed),
+        Outcome::Dropped => len,
     }
 }

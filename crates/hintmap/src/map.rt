@@ -1,23 +1,23 @@
-// The list of edges, and the mapping of a height by it.
+// The map that drawings hold, and its edges as numbers.
 use fixed::Fixed;
-use fixed::least;
 use stems::Hint;
+use stems::LINES;
 use stems::MAX_HINTS;
+use stems::TAGS;
+use stems::edge_at;
+use stems::put_edge;
 ghost use mathlib.Core.Path.{_≡_};
-ghost use Rattle.hintmap.specs.Map.{newMap, invalidMap, validMap, view, line, mapOf};
+ghost use Prim.Native.Nat.{_≤_};
+ghost use Rattle.stems.specs.Edge.{maxHints};
+ghost use Rattle.stems.specs.Lists.{Whole, Listed};
+ghost use Rattle.hintmap.specs.Map.{newMap, invalidMap, validMap};
+ghost use Rattle.hintmap.specs.Lent.{mapIn};
 
 pub struct HintMap {
     pub edges: [Hint; MAX_HINTS],
     pub len: usize,
     pub is_valid: bool,
     pub scale: Fixed,
-}
-
-// The device height of a height on the line through an edge.
-fn on_line(edge: Hint, scale: Fixed, height: Fixed) -> Fixed
-    ensures { λ r. ⌜ r ≡ line edge scale height ⌝ }
-{
-    height.sub(edge.cs_coord).mul(scale).add(edge.ds_coord)
 }
 
 impl HintMap {
@@ -52,27 +52,27 @@ impl HintMap {
         built
     }
 
-    // Ports `HintMap::transform`: upward from the first edge, past each next one that is at or
-    // below the height. There the Rust walks down again, which never takes a step.
-    pub fn transform(self, height: Fixed) -> Fixed
-        ensures { λ r. ⌜ r ≡ mapOf (view self) (self .scale) height ⌝ }
+    // The edges as numbers, at every place of lists.
+    pub fn list(self, lines: &mut [i32; LINES], tags: &mut [u8; TAGS])
+        requires { ⌜ Whole (now lines) (now tags) ⌝ }
+        ensures { λ r. ⌜ Listed (self .edges) (now (lines .exit)) (now (tags .exit)) ⌝ }
     {
-        let len = least(self.len, MAX_HINTS);
-        if len == 0 {
-            return height.mul(self.scale);
+        for i in 0..MAX_HINTS {
+            let edge = self.edges[i];
+            put_edge(lines, tags, i, edge);
         }
-        let mut i: usize = 0;
-        while i + 1 < len {
-            let next = self.edges[i + 1];
-            if !next.cs_coord.at_most(height) {
-                break;
-            }
-            i += 1;
+    }
+
+    // The map that the first places of lists hold.
+    pub fn from_lists(lines: &[i32; LINES], tags: &[u8; TAGS], len: usize, scale: Fixed) -> HintMap
+        requires { ⌜ len ≤ maxHints ⌝ }
+        ensures { λ r. ⌜ r ≡ mapIn (now (lines .entry)) (now (tags .entry)) len scale ⌝ }
+    {
+        let mut map = HintMap::new(scale);
+        for i in 0..len {
+            map.edges[i] = edge_at(lines, tags, i);
         }
-        let edge = self.edges[i];
-        if height.less(edge.cs_coord) {
-            return on_line(edge, self.scale, height);
-        }
-        on_line(edge, edge.scale, height)
+        map.len = len;
+        map
     }
 }

@@ -86,6 +86,11 @@ pub record Whole (lines : List ℤ) (tags : List ℕ) : Type 0 where
   pub all : length lines ≡ 288
   pub named : length tags ≡ 192
 
+-- lists that hold an edge at each place
+pub record Listed (es : List Hint) (lines : List ℤ) (tags : List ℕ) : Type 0 where
+  pub whole : Whole lines tags
+  pub edges : edgesIn lines tags ≡ es
+
 -- ---- edges written
 -- a device height and a scale at place i
 abbrev pub setLine : List ℤ → ℕ → Hint → List ℤ
