@@ -2,17 +2,16 @@
 -- nothing.
 use mathlib.Core.Path.{_≡_, refl, sym, ap, _∙_}
 use mathlib.Core.Bool.{Bool, true, false}
-use mathlib.Core.List.{List, _++_}
-use Prim.Native.Nat.{ℕ, _+_, _-_, _≤_, _<_}
+use mathlib.Core.List.{List, [], _∷_, _++_, append-assoc}
+use Prim.Native.Nat.{ℕ, suc, _+_, _-_, _≤_, _<_}
+use native.Mathlib.Numerals.{add-one}
 use native.Mathlib.Omega.{arith}
-use lib.Dec.{eqb}
 use lib.IntN.{ℤ}
 use lib.ListN.{length, getD, set, take, drop, replicate, length-append, List·getD-append, length-replicate}
 use lib.ListN.{length-take, replicate-append-replicate}
 use lib.Seq.{take-at, drop-at, drop-append-add, length-take-le, getD-take, take-set-lt, set-append-left}
-use lib.Seq.{getD-set-same, getD-set-other}
+use lib.Seq.{set-at, take-suc}
 use lib.Signed.{_≤ℤ_}
-use borrow.Author.Tests.{eqb-true, eqb-false}
 use Rattle.fixed.specs.declared.Fixed.{Fixed}
 use Rattle.stems.specs.declared.edge.Hint.{Hint}
 use Rattle.stems.specs.Edge.{noHint}
@@ -97,3 +96,20 @@ module _ (ls : List ℤ) (ts : List ℕ) (n : ℕ) (h : n ≤ 96) where
         ap (λ (es : List Hint). take n es ++ replicate (96 - n) noHint) p ∙
         ap (λ (es : List Hint). es ++ replicate (96 - n) noHint) (take-set-lt n (edgesIn ls ts) i e l) ∙
         sym (set-append-left (held ls ts n) (replicate (96 - n) noHint) i e (omega (arith, held-length)))
+
+-- one edge more than so many
+pub grown : (ls : List ℤ) (ts : List ℕ) (i : ℕ) (s : Fixed) → i < 96 →
+    set (mapIn ls ts i s .edges) i (hintIn ls ts i) ≡ mapIn ls ts (i + 1) s .edges
+unfolding mapIn
+grown ls ts i s p =
+    let l = held-length ls ts i (omega arith) in
+    let e : 96 - i ≡ suc (96 - suc i) = omega arith in
+    let k : i < length (edgesIn ls ts) = omega (arith, edges-long ls ts) in
+    rw (
+      add-one i,
+      e,
+      set-at (held ls ts i) noHint (replicate (96 - suc i) noHint) (hintIn ls ts i) i l,
+      take-suc (edgesIn ls ts) i noHint k,
+      edge-in ls ts i p,
+    )
+    (sym (append-assoc (held ls ts i) (hintIn ls ts i ∷ []) (replicate (96 - suc i) noHint)))

@@ -6,7 +6,13 @@ pub mod Alike
 pub mod Enter
 pub mod View
 pub mod Outcome
+pub mod Placed
 pub mod Lent
+pub mod Found
+pub mod Order
+pub mod Insertion
+pub mod Decided
+pub mod Entering
 pub mod WholeStems
 pub mod Words
 pub mod Mapping

@@ -18,7 +18,8 @@ use Rattle.hintmap.specs.WholeStems.{height, WholeStems, Ascends, Last, 
 use Rattle.hintmap.proofs.Walk.{serves-at}
 use Rattle.hintmap.proofs.Words.{stems-ascend}
 
-tail-ascends : (e : Hint) (es : List Hint) → Ascends (e ∷ es) → Ascends es
+-- the edges after the first
+pub tail-ascends : (e : Hint) (es : List Hint) → Ascends (e ∷ es) → Ascends es
 tail-ascends e es s i j l k = s (suc i) (suc j) (omega arith) (omega arith)
 
 -- nothing is passed where the next edge is above

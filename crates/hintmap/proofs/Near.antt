@@ -1,5 +1,4 @@
--- What stands beside a place of a map, and how many edges lead it, read in the map's array. Assumes
--- nothing.
+-- What stands beside a place of a list of edges, and how many edges lead it. Assumes nothing.
 use mathlib.Core.Path.{_≡_, refl, sym, ap, _∙_}
 use mathlib.Core.Bool.{Bool, true, false, not}
 use mathlib.Core.List.{List, [], _∷_}
@@ -24,57 +23,40 @@ Held m = length ((the-type .to m) .0) ≡ 96
 pub held-long : (m : HintMap) → Held m → length (m .edges) ≡ 96
 held-long m g = simp length-map at g
 
-module _ (m : HintMap) (held : Held m) (fits : m .len ≤ 96) (at : ℕ) where
-  -- from a place on the edges are the one there and those after it
-  from : at < m .len → drop at (view m) ≡ getD (m .edges) at noHint ∷ drop (suc at) (view m)
-  from l =
-      let g = held-long m held in
-      let k : at < length (view m) = simp length-take (omega arith) in
-      drop-cons (view m) at noHint k ∙ rw (getD-take (m .len) (m .edges) at noHint l)
+-- the edge at a place, or none, tested by code that has the answer r
+module _ (f : Hint → Bool) (es : List Hint) where
+  pub ahead-at : (at : ℕ) {r : Bool} → at < length es → r ≡ f (getD es at noHint) → not r ≡ clearAhead f (drop at es)
+  unfolding clearAhead
+  ahead-at at l e = rw (drop-cons es at noHint l, e)
 
-  -- and there are none from the last on
-  past : m .len ≤ at → drop at (view m) ≡ []
-  past l = drop-of-length-le (view m) {i = at} (simp length-take (omega arith))
+  pub ahead-none : (at : ℕ) → length es ≤ at → true ≡ clearAhead f (drop at es)
+  unfolding clearAhead
+  ahead-none at l = rw (drop-of-length-le es {i = at} l)
 
--- a test of the edges from a place on, in the words of code that asks the edge there and has the
--- answer r
-pub record Asked (m : HintMap) (f : Hint → Bool) : Type 0 where
-  pub clear : (at : ℕ) {r : Bool} → at < m .len → r ≡ f (getD (m .edges) at noHint) →
-      not r ≡ clearAhead f (drop at (view m))
-  pub none : (at : ℕ) → m .len ≤ at → true ≡ clearAhead f (drop at (view m))
-  -- k edges passed, and those that lead from the place: one more is passed, or no more are
-  pub passes : (k at : ℕ) {r : Bool} → at < m .len → r ≡ f (getD (m .edges) at noHint) → not r ≡ false →
-      k + leading f (drop at (view m)) ≡ k + 1 + leading f (drop (at + 1) (view m))
-  pub stops : (k at : ℕ) {r : Bool} → at < m .len → r ≡ f (getD (m .edges) at noHint) → not r ≡ true →
-      k + leading f (drop at (view m)) ≡ k
-  pub ends : (k at : ℕ) → m .len ≤ at → k + leading f (drop at (view m)) ≡ k
-
-pub asked : (m : HintMap) → Held m → m .len ≤ 96 → (f : Hint → Bool) → Asked m f
-unfolding clearAhead leading
-asked m held fits f =
-    record {
-      clear = λ at l e. rw (from m held fits at l, e);
-      none = λ at l. rw (past m held fits at l);
-      passes = λ k at l e t. rw (from m held fits at l, sym e ∙ not-false _ t, add-one at) (omega arith);
-      stops = λ k at l e t. rw (from m held fits at l, sym e ∙ not-true _ t) (omega arith);
-      ends = λ k at l. rw (past m held fits at l) (omega arith);
-    }
-
--- the edge before a place
-module _ (f : Hint → Bool) where
-  pub behind-at : (es : List Hint) (n at : ℕ) {r : Bool} → 0 < at → at ≤ n → r ≡ f (getD es (at - 1) noHint) →
-      not r ≡ clearBehind f (take n es) at
+  -- the edge before a place
+  pub behind-at : (at : ℕ) {r : Bool} → 0 < at → r ≡ f (getD es (at - 1) noHint) → not r ≡ clearBehind f es at
   unfolding clearBehind
-  behind-at es n zero p l e = absurd (omega arith)
-  behind-at es n (suc at) p l e =
+  behind-at zero p e = absurd (omega arith)
+  behind-at (suc at) p e =
       let k : suc at - 1 ≡ at = omega arith in
-      let h : at < n = omega arith in
-      rw (getD-take n es at noHint h) (ap not (rw k at e))
+      ap not (rw k at e)
 
-  pub behind-none : (es : List Hint) (at : ℕ) → at ≤ 0 → true ≡ clearBehind f es at
+  pub behind-none : (at : ℕ) → at ≤ 0 → true ≡ clearBehind f es at
   unfolding clearBehind
-  behind-none es zero l = refl
-  behind-none es (suc at) l = absurd (omega arith)
+  behind-none zero l = refl
+  behind-none (suc at) l = absurd (omega arith)
+
+-- k edges lead where each of them passes the test, and the next, if there is one, does not
+pub leading-is : (f : Hint → Bool) (es : List Hint) (k : ℕ) → k ≤ length es →
+    ((i : ℕ) → i < k → f (getD es i noHint) ≡ true) →
+    (k < length es → f (getD es k noHint) ≡ false) → leading f es ≡ k
+unfolding leading
+leading-is f [] zero l p q = refl
+leading-is f [] (suc k) l p q = absurd (omega arith)
+leading-is f (e ∷ es) zero l p q = rw (q (omega arith))
+leading-is f (e ∷ es) (suc k) l p q =
+    rw (p 0 (omega arith))
+    (ap suc (leading-is f es k (omega arith) (λ i h. p (suc i) (omega arith)) (λ h. q (omega arith))))
 
 -- as many as there are lead at most
 one-more : (b : Bool) {k n : ℕ} → k ≤ n → countBy b k ≤ suc n

@@ -53,7 +53,8 @@ again-alike true es s₀ s (One e) = cons (like-device e _) nil
 again-alike true es s₀ s (Two b t) = cons (like-device b _) (cons (like-device t _) nil)
 again-alike false es s₀ s e = alike-refl (edgesOf e)
 
-either : (b : Bool) → onlyIf b outcome.Dropped ≡ outcome.Dropped
+-- what is dropped is so under any test before
+pub either : (b : Bool) → onlyIf b outcome.Dropped ≡ outcome.Dropped
 either true = refl
 either false = refl
 

@@ -16,7 +16,8 @@ use Rattle.stems.specs.Edge.{noHint, validK, pairK, pairTopK, isValid, isPair}
 use Rattle.hintmap.specs.WholeStems.{height, Single, Pair, Past, WholeStems, none, one, two, Ascends}
 
 -- ---- heights never fall
-cons-ascends : (x : Hint) (xs : List Hint) → (0 < length xs → height x .bits ≤ℤ height (getD xs 0 noHint) .bits) →
+-- an edge before others, no higher than the first of them
+pub cons-ascends : (x : Hint) (xs : List Hint) → (0 < length xs → height x .bits ≤ℤ height (getD xs 0 noHint) .bits) →
     Ascends xs → Ascends (x ∷ xs)
 cons-ascends x xs f s zero zero l k = omega heights
 cons-ascends x xs f s zero (suc j) l k =

@@ -152,13 +152,7 @@ impl Edges {
     }
 
     // Placed again by the lines of the initial map, with its own scale, unless the first is locked.
-    pub fn placed(
-        self,
-        initial: &[i32; LINES],
-        len: usize,
-        base: Fixed,
-        scale: Fixed,
-    ) -> Edges
+    pub fn placed(self, initial: &[i32; LINES], len: usize, base: Fixed, scale: Fixed) -> Edges
         requires { ⌜ len ≤ maxHints ⌝ }
         ensures { λ r. ⌜ PlacedBy (now (initial .entry)) len base scale self r ⌝ }
     {
@@ -242,12 +236,7 @@ fn put(lines: &mut [i32; LINES], tags: &mut [u8; TAGS], len: usize, at: usize, e
 
 // Ports `HintMap::insert`, into the lists of a map: edges as they are placed are put in, or dropped.
 // Gives the new length.
-pub fn insert_edges(
-    lines: &mut [i32; LINES],
-    tags: &mut [u8; TAGS],
-    len: usize,
-    e: Edges,
-) -> usize
+pub fn insert_edges(lines: &mut [i32; LINES], tags: &mut [u8; TAGS], len: usize, e: Edges) -> usize
     requires { ⌜ Lent (now lines) (now tags) len ⌝ }
     ensures { λ r. ⌜ Inserted (now (lines .entry)) (now (tags .entry)) len e r (now (lines .exit)) (now (tags .exit)) ⌝ }
 {

@@ -1,69 +1,58 @@
+-- `reached` meets its contract. The loop's invariant: the edges behind the first, up to `i`, are at or
+-- below the height. Assumes nothing.
+use borrow.Author.Needs.{needs}
+use mathlib.Core.Path.{_≡_, sym, ap, _∙_}
+use mathlib.Core.Bool.{true}
+use Prim.Native.Nat.{ℕ, _<_, _-_, _+_}
+use native.Mathlib.Omega.{arith}
+use borrow.Author.Tests.{not-true, not-false}
+use Rattle.fixed.specs.declared.Fixed.{Fixed}
+use Rattle.fixed.specs.Fixed.{atMostF}
+use Rattle.stems.specs.Lists.{heightIn}
+use Rattle.hintmap.proofs.Found.{before-next, reaches}
 use Rattle.hintmap.proofs.heights.reached.Statement.{statement}
 use Rattle.hintmap.proofs.heights.reached.Tie as tie
-use Rattle.hintmap.proofs.heights.reached.Reads as reads
-use Rattle.hintmap.proofs.heights.reached.Lts as lts
-use Rattle.fixed.proofs.Fixed.at_most.Reads as at-most-reads
-use Rattle.stems.proofs.height_at.Reads as height-at-reads
 
 abbrev Inv-loop : tie.InvT-loop
-Inv-loop lines len height i₀ i = ?
+Inv-loop lines len height i₀ i = (i < len) × ((j : ℕ) → j < i → atMostF (heightIn lines (j + 1)) height ≡ true)
 
 abbrev μ-loop : tie.MeasureT-loop
-μ-loop lines len height i₀ i = ?
+μ-loop lines len height i₀ i = len - i
 
--- src/heights.rt:17:5
-loop-holds : tie.Need-loop-holds Inv-loop μ-loop
-loop-holds c = ?
+-- the test of the next edge is of its height
+asked : (c : tie.After-at-most Inv-loop μ-loop) → let l = c .before .before .before in
+    c .at-most .result ≡ atMostF (heightIn (l .before .args .lines .now) (l .loop .i + 1)) (l .before .args .height)
+asked c =
+    c .at-most .ensures ∙ ap (λ (x : Fixed). atMostF x (c .before .before .before .before .args .height))
+    (c .before .height-at .ensures)
 
--- src/heights.rt:17:11
-add-loop : tie.Need-add-loop Inv-loop μ-loop
-add-loop c = ?
-
--- src/heights.rt:18:30
-add-height-at : tie.Need-add-height-at Inv-loop μ-loop
-add-height-at c = ?
-
--- src/heights.rt:18:13
-height-at-requires : tie.Need-height-at-requires Inv-loop μ-loop
-height-at-requires c κs = ?
-
--- src/heights.rt:18:13
-at-most-requires : tie.Need-at-most-requires Inv-loop μ-loop
-at-most-requires c κs = ?
-
--- src/heights.rt:19:13
 returns : tie.Need-returns Inv-loop μ-loop
-returns c = ?
+returns c =
+    let l = c .before .before .before .before in
+    let a = l .before .args in (
+      l .loop .inv .0,
+      reaches (a .lines .now) (a .len) (a .height) (search needs) (l .loop .i) (l .loop .inv .0) (l .loop .inv .1)
+          (λ _. sym (asked (c .before)) ∙ not-true _ (c .if1 .taken)),
+    )
 
--- src/heights.rt:21:9
-add-i : tie.Need-add-i Inv-loop μ-loop
-add-i c = ?
-
--- src/heights.rt:17:5
-loop-less : tie.Need-loop-less Inv-loop μ-loop
-loop-less c = ?
-
--- src/heights.rt:17:5
 loop-again : tie.Need-loop-again Inv-loop μ-loop
-loop-again c = ?
+loop-again c =
+    let l = c .before .before .before .before in (
+      omega arith,
+      before-next (l .loop .i) (l .loop .inv .1) (sym (asked (c .before)) ∙ not-false _ (c .if1 .left)),
+    )
 
--- src/heights.rt:12:1
 returns-2 : tie.Need-returns-2 Inv-loop μ-loop
-returns-2 c = ?
+returns-2 c =
+    let l = c .before in
+    let a = l .before .args in (
+      l .loop .inv .0,
+      reaches (a .lines .now) (a .len) (a .height) (search needs) (l .loop .i) (l .loop .inv .0) (l .loop .inv .1)
+          (λ o. absurd (omega arith)),
+    )
 
 pub reached-spec : {M : Type 1} → statement M
 reached-spec =
     tie.close
-    (tie.spec
-    Inv-loop
-    μ-loop
-    loop-holds
-    add-loop
-    add-height-at
-    height-at-requires
-    at-most-requires
-    returns
-    add-i
-    loop-less
-    loop-again
-    returns-2)
+    (tie.spec Inv-loop μ-loop (λ c. (omega arith, λ j l. absurd (omega arith))) (λ c. omega arith) (λ c. omega arith)
+    (λ c κs. search needs) (λ c κs. search needs) returns (λ c. omega arith) (λ c. omega arith) loop-again returns-2)

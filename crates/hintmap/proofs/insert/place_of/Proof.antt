@@ -1,64 +1,54 @@
+-- `place_of` meets its contract. The loop's invariant: the edge at `at`, if there is one, is not under
+-- the height. Assumes nothing.
+use borrow.Author.Needs.{needs}
+use mathlib.Core.Path.{_≡_, sym, ap, _∙_}
+use mathlib.Core.Bool.{false}
+use Prim.Native.Nat.{_≤_, _<_, _-_}
+use native.Mathlib.Omega.{arith}
+use Rattle.fixed.specs.declared.Fixed.{Fixed}
+use Rattle.fixed.specs.Fixed.{lessF}
+use Rattle.stems.specs.Lists.{heightIn}
+use Rattle.hintmap.proofs.Found.{places}
 use Rattle.hintmap.proofs.insert.place_of.Statement.{statement}
 use Rattle.hintmap.proofs.insert.place_of.Tie as tie
-use Rattle.hintmap.proofs.insert.place_of.Reads as reads
-use Rattle.hintmap.proofs.insert.place_of.Lts as lts
-use Rattle.fixed.proofs.Fixed.less.Reads as less-reads
-use Rattle.stems.proofs.height_at.Reads as height-at-reads
 
 abbrev Inv-loop : tie.InvT-loop
-Inv-loop lines len height at₀ at = ?
+Inv-loop lines len height at₀ at = (at ≤ len) × (at < len → lessF (heightIn lines at) height ≡ false)
 
 abbrev μ-loop : tie.MeasureT-loop
-μ-loop lines len height at₀ at = ?
+μ-loop lines len height at₀ at = at
 
--- src/insert.rt:181:5
-loop-holds : tie.Need-loop-holds Inv-loop μ-loop
-loop-holds c = ?
+-- the test of the edge before is of its height
+asked : (c : tie.After-less Inv-loop μ-loop) → let l = c .before .before .before in
+    c .less .result ≡ lessF (heightIn (l .before .args .lines .now) (l .loop .at - 1)) (l .before .args .height)
+asked c =
+    c .less .ensures ∙ ap (λ (x : Fixed). lessF x (c .before .before .before .before .args .height))
+    (c .before .height-at .ensures)
 
--- src/insert.rt:182:29
-sub-height-at : tie.Need-sub-height-at Inv-loop μ-loop
-sub-height-at c = ?
-
--- src/insert.rt:182:12
-height-at-requires : tie.Need-height-at-requires Inv-loop μ-loop
-height-at-requires c κs = ?
-
--- src/insert.rt:182:12
-less-requires : tie.Need-less-requires Inv-loop μ-loop
-less-requires c κs = ?
-
--- src/insert.rt:183:13
 returns : tie.Need-returns Inv-loop μ-loop
-returns c = ?
+returns c =
+    let l = c .before .before .before .before in
+    let a = l .before .args in (
+      l .loop .inv .0,
+      places (a .lines .now) (a .len) (a .height) (l .before .pre .0) (l .loop .at) (l .loop .inv .0) (l .before .pre .1)
+          (λ _. sym (asked (c .before)) ∙ c .if1 .taken) (l .loop .inv .1),
+    )
 
--- src/insert.rt:185:9
-sub-at : tie.Need-sub-at Inv-loop μ-loop
-sub-at c = ?
-
--- src/insert.rt:181:5
-loop-less : tie.Need-loop-less Inv-loop μ-loop
-loop-less c = ?
-
--- src/insert.rt:181:5
 loop-again : tie.Need-loop-again Inv-loop μ-loop
-loop-again c = ?
+loop-again c = (omega arith, λ _. sym (asked (c .before)) ∙ c .if1 .left)
 
--- src/insert.rt:176:1
 returns-2 : tie.Need-returns-2 Inv-loop μ-loop
-returns-2 c = ?
+returns-2 c =
+    let l = c .before in
+    let a = l .before .args in
+    let z : l .loop .at ≡ 0 = omega arith in (
+      omega arith,
+      places (a .lines .now) (a .len) (a .height) (l .before .pre .0) 0 (omega arith) (l .before .pre .1)
+          (λ o. absurd (omega arith)) (rw z at (l .loop .inv .1)),
+    )
 
 pub place-of-spec : {M : Type 1} → statement M
 place-of-spec =
     tie.close
-    (tie.spec
-    Inv-loop
-    μ-loop
-    loop-holds
-    sub-height-at
-    height-at-requires
-    less-requires
-    returns
-    sub-at
-    loop-less
-    loop-again
-    returns-2)
+    (tie.spec Inv-loop μ-loop (λ c. (omega arith, λ l. absurd (omega arith))) (λ c. search needs) (λ c κs. search needs)
+    (λ c κs. search needs) returns (λ c. search needs) (λ c. omega arith) loop-again returns-2)

@@ -1,58 +1,58 @@
+-- `HintMap::list` meets its contract. The loop's invariant: the first `i` places hold the map's edges.
+-- Assumes nothing.
+use borrow.Author.Needs.{needs}
+use mathlib.Core.Path.{_≡_, sym, ap, _∙_}
+use mathlib.Core.Bool.{Bool}
+use Prim.Native.Nat.{ℕ, _+_, _-_, _≤_, _<_}
+use native.Mathlib.Omega.{arith}
+use lib.ListN.{length, getD}
+use lib.Seq.{ext-getD, getD-set-same, getD-set-other}
+use Rattle.stems.specs.Edge.{noHint}
+use Rattle.stems.specs.Lists.{edgesIn, Whole}
+use Rattle.stems.proofs.Places.{edges-long, put-is, put-whole}
+use Rattle.hintmap.proofs.Found.{before-next}
+use Rattle.hintmap.proofs.Near.{held-long}
 use Rattle.hintmap.proofs.map.HintMap.list.Statement.{statement}
 use Rattle.hintmap.proofs.map.HintMap.list.Tie as tie
-use Rattle.hintmap.proofs.map.HintMap.list.Reads as reads
-use Rattle.hintmap.proofs.map.HintMap.list.Lts as lts
-use Rattle.stems.proofs.put_edge.Reads as put-edge-reads
 
 abbrev Inv-loop : tie.InvT-loop
-Inv-loop lines₀ tags₀ self i₀ lines tags i = ?
+Inv-loop lines₀ tags₀ self i₀ lines tags i =
+    (i ≤ 96) × (Whole lines tags × ((j : ℕ) → j < i → getD (edgesIn lines tags) j noHint ≡ getD (self .edges) j noHint))
 
 abbrev μ-loop : tie.MeasureT-loop
-μ-loop lines₀ tags₀ self i₀ lines tags i = ?
+μ-loop lines₀ tags₀ self i₀ lines tags i = 96 - i
 
--- src/map.rt:60:9
-loop-holds : tie.Need-loop-holds Inv-loop μ-loop
-loop-holds c = ?
-
--- src/map.rt:61:24
-mul-edge : tie.Need-mul-edge Inv-loop μ-loop
-mul-edge c = ?
-
--- src/map.rt:61:24
-element-copy-out-edge : tie.Need-element-copy-out-edge Inv-loop μ-loop
-element-copy-out-edge c = ?
-
--- src/map.rt:62:13
-put-edge-requires : tie.Need-put-edge-requires Inv-loop μ-loop
-put-edge-requires c κs = ?
-
--- src/map.rt:60:13
-add-i : tie.Need-add-i Inv-loop μ-loop
-add-i c = ?
-
--- src/map.rt:60:9
-loop-less : tie.Need-loop-less Inv-loop μ-loop
-loop-less c = ?
-
--- src/map.rt:60:9
 loop-again : tie.Need-loop-again Inv-loop μ-loop
-loop-again c = ?
+loop-again c =
+    let l = c .before .before .before .before .before in
+    let i = l .loop .i in
+    let p : i < 96 = omega arith in
+    let w = l .loop .inv .1 .0 in
+    let m = c .put-edge .ensures in
+    let es = edgesIn (l .loop .lines) (l .loop .tags) in
+    let e = put-is _ _ w i p _ m in
+    let k : i < length es = omega (arith, edges-long (l .loop .lines) (l .loop .tags)) in (
+      omega arith,
+      (
+        put-whole _ _ w i p _ m,
+        before-next i
+            (λ j q. ap (λ x. getD x j noHint) e ∙ getD-set-other es i j _ noHint (λ z. omega arith) ∙ l .loop .inv .1 .1 j q)
+            (ap (λ x. getD x i noHint) e ∙ getD-set-same es i _ noHint k),
+      ),
+    )
 
--- src/map.rt:56:5
 returns : tie.Need-returns Inv-loop μ-loop
-returns c = ?
+returns c =
+    let l = c .before in
+    let a = edges-long (l .loop .lines) (l .loop .tags) in
+    let b = held-long (l .before .args .t1) (l .before .good .0 .1 .1 .0 .1 .0 .1) in
+    record {
+      whole = l .loop .inv .1 .0;
+      edges = ext-getD noHint _ _ (a ∙ sym b) (λ j q. l .loop .inv .1 .1 j (omega (arith, a)));
+    }
 
 pub list-spec : {M : Type 1} → statement M
 list-spec =
     tie.close
-    (tie.spec
-    Inv-loop
-    μ-loop
-    loop-holds
-    mul-edge
-    element-copy-out-edge
-    put-edge-requires
-    add-i
-    loop-less
-    loop-again
-    returns)
+    (tie.spec Inv-loop μ-loop (λ c. (omega arith, (c .pre, λ j q. absurd (omega arith)))) (λ c. omega arith)
+    (λ c. omega arith) (λ c κs. omega arith) (λ c. omega arith) (λ c. omega arith) loop-again returns)
