@@ -15,8 +15,7 @@ pub struct HintMask {
 fn msb_mask(bit: usize) -> u8
     ensures { λ r. ⌜ r ≡ 2 ^ (7 - bit % 8) ⌝ }
 {
-    let masks = [128u8, 64, 32, 16, 8, 4, 2, 1];
-    masks[bit % 8]
+    128u8 >> (bit % 8)
 }
 
 impl HintMask {
