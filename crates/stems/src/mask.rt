@@ -51,7 +51,7 @@ impl HintMask {
             return false;
         }
         let byte = self.bytes[bit / 8];
-        byte / msb_mask(bit) % 2 == 1
+        (byte >> (7 - bit % 8)) % 2 == 1
     }
 
     // Ports `HintMask::clear`.
