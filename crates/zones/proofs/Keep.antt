@@ -19,15 +19,6 @@ use Rattle.zones.specs.Zones.{noBlue, noZone, heightOf, zoneOf, sift, bl
 use Rattle.zones.specs.Zones.{noZones, pushed, keptSide, keptIn, readIn, listOf, kept, eachIn}
 use Rattle.zones.proofs.Taken.{taken-more, taken-ends}
 
--- a pair read adds at most one zone
-pub kept-count : (other : Bool) (q : Zones) (b : Blue) → keptIn other q b .count ≤ q .count + 1
-unfolding keptIn
-kept-count other q b = go (lessF (heightOf b) ZERO)
-  where
-    go : (t : Bool) → cond t q (pushed q (zoneOf (keptSide other (q .count)) b) (heightOf b)) .count ≤ q .count + 1
-    go true = omega arith
-    go false = omega arith
-
 module _ (other : Bool) (q : Zones) (n : ℕ) (bs : List Blue) (fits : n ≤ length bs) (i : ℕ) where
   -- a pair more of those to be read
   pub read-more : i < n → readIn other q (drop i (take n bs)) ≡
