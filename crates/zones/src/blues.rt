@@ -6,7 +6,7 @@ ghost use mathlib.Core.Path.{_≡_};
 ghost use Prim.Native.Nat.{_+_, _<_, _≤_};
 ghost use lib.ListN.{take, getD};
 ghost use Rattle.zones.specs.Zones.{maxBlues, maxZones, heightOf, whollyBelow, whollyAbove, noBlue, noZone};
-ghost use Rattle.zones.specs.Zones.{zoneOf, noZones, keptSide, readIn, eachIn, familyEdge, familyFrom};
+ghost use Rattle.zones.specs.Zones.{zoneOf, noZones, keptSide, readIn, familyEdge, familyFrom};
 ghost use Rattle.zones.specs.Zones.{nearer, nearestOf, movedFlat, deviceFlat};
 
 // How many pairs a list has at most, how many of the other blues count, and how many zones that
@@ -185,27 +185,6 @@ impl Zones {
             zones.count = at + 1;
             let greatest = zones.greatest.max(height);
             zones.greatest = greatest;
-        }
-        zones
-    }
-
-    // From `build_zones`: every flat edge by the family, then on the device.
-    pub(crate) fn finish(
-        self,
-        others: Blues,
-        blues: Blues,
-        limit: Fixed,
-        scale: Fixed,
-        boost: Fixed,
-    ) -> Zones
-        requires { ⌜ self .count ≤ maxZones ⌝ }
-        ensures { λ r. ⌜ r ≡ eachIn (λ z. deviceFlat scale boost (movedFlat others blues limit z)) self ⌝ }
-    {
-        let mut zones = self;
-        let count = zones.count;
-        for i in 0..count {
-            let zone = zones.list[i];
-            zones.list[i] = zone.by_family(others, blues, limit).on_device(scale, boost);
         }
         zones
     }
