@@ -5,7 +5,7 @@ use mathlib.Core.List.{List, [], _∷_, _++_}
 use Prim.Native.Nat.{ℕ, zero, suc, _+_, _-_, _*_, _≤_}
 use lib.Dec.{ltb}
 use lib.IntN.{pos}
-use lib.ListN.{length, set, replicate}
+use lib.ListN.{length, replicate}
 use Rattle.fixed.specs.Fixed.{fromBits, lessF}
 use Rattle.zones.specs.declared.blues.Blue.{Blue}
 use Rattle.zones.specs.declared.blues.Blues.{Blues}
@@ -43,10 +43,6 @@ pairsFrom w i (suc n) = pairAt w i ∷ pairsFrom w (i + 2) n
 -- the same as a list of seven, zeros behind them
 unfoldable pub bluesAt : (ℕ → ℕ) → ℕ → ℕ → Blues
 bluesAt w i n = record { pairs = pairsFrom w i n ++ replicate (maxBlues - n) noBlue; count = n }
-
--- one pair more
-abbrev pub pushedPair : Blues → Blue → Blues
-pushedPair b p = record { pairs = set (b .pairs) (b .count) p; count = b .count + 1 }
 
 -- the lists stand one behind the other: blues, other blues, family blues, family other blues
 unfoldable pub paramsOf : (ℕ → ℕ) → HintParams

@@ -9,10 +9,10 @@ use zones::Blues;
 use zones::HintParams;
 use zones::MAX_BLUES;
 ghost use mathlib.Core.Path.{_≡_};
-ghost use Prim.Native.Nat.{_+_, _*_, _≤_, _<_};
+ghost use Prim.Native.Nat.{_+_, _*_, _≤_};
 ghost use lib.ListN.{length};
 ghost use Rattle.words.specs.Words.{rawAt};
-ghost use Rattle.header.specs.Params.{pairAt, pushedPair, bluesAt, paramsOf, WholeParams};
+ghost use Rattle.header.specs.Params.{pairAt, bluesAt, paramsOf, WholeParams};
 ghost use Rattle.zones.specs.Zones.{maxBlues};
 
 fn pair(script: &[u8], at: usize) -> Blue
@@ -24,18 +24,6 @@ fn pair(script: &[u8], at: usize) -> Blue
     Blue { bottom, top }
 }
 
-// One pair more.
-fn with_pair(blues: Blues, given: Blue) -> Blues
-    requires { ⌜ blues .count < maxBlues ⌝ }
-    ensures { λ r. ⌜ r ≡ pushedPair blues given ⌝ }
-{
-    let mut more = blues;
-    let count = more.count;
-    more.pairs[count] = given;
-    more.count = count + 1;
-    more
-}
-
 // So many pairs from a word on.
 fn read_blues(script: &[u8], at: usize, count: usize) -> Blues
     requires { ⌜ (count ≤ maxBlues) × (4 * (at + 2 * count) ≤ length (now script)) ⌝ }
@@ -45,14 +33,11 @@ fn read_blues(script: &[u8], at: usize, count: usize) -> Blues
         bottom: Fixed::ZERO,
         top: Fixed::ZERO,
     };
-    let mut blues = Blues {
-        pairs: [none; MAX_BLUES],
-        count: 0,
-    };
+    let mut pairs = [none; MAX_BLUES];
     for i in 0..count {
-        blues = with_pair(blues, pair(script, at + 2 * i));
+        pairs[i] = pair(script, at + 2 * i);
     }
-    blues
+    Blues { pairs, count }
 }
 
 // The parameters, in the order in which the script has them.

@@ -15,8 +15,7 @@ pub struct HintMask {
 fn msb_mask(bit: usize) -> u8
     ensures { λ r. ⌜ r ≡ 2 ^ (7 - bit % 8) ⌝ }
 {
-    let masks = [128u8, 64, 32, 16, 8, 4, 2, 1];
-    masks[bit % 8]
+    128u8 >> (bit % 8)
 }
 
 impl HintMask {
@@ -52,7 +51,7 @@ impl HintMask {
             return false;
         }
         let byte = self.bytes[bit / 8];
-        byte / msb_mask(bit) % 2 == 1
+        (byte >> (7 - bit % 8)) % 2 == 1
     }
 
     // Ports `HintMask::clear`.

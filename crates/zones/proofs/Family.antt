@@ -1,17 +1,13 @@
--- Laws of the search among a family's edges, and of zones changed one after the other. Assumes
--- nothing.
-use mathlib.Core.Path.{_≡_, refl, ap}
+-- Laws of the search among a family's edges. Assumes nothing.
+use mathlib.Core.Path.{_≡_, refl}
 use mathlib.Core.Bool.{true, false, cond}
-use mathlib.Core.List.{List, [], _∷_, _++_, map}
-use Prim.Native.Nat.{ℕ, zero, suc, _+_, _≤_, _<_}
-use native.Mathlib.Numerals.{add-one}
-use lib.ListN.{length, take, drop, getD, set}
+use mathlib.Core.List.{List, _∷_, map}
+use Prim.Native.Nat.{ℕ, suc, _+_, _≤_, _<_}
+use lib.ListN.{length, take, drop, getD}
 use Rattle.fixed.specs.declared.Fixed.{Fixed}
 use Rattle.fixed.specs.Fixed.{ZERO, sameF}
 use Rattle.stems.specs.declared.edge.Side.{Side}
 use Rattle.zones.specs.declared.blues.Blue.{Blue}
-use Rattle.zones.specs.declared.blues.BlueZone.{BlueZone}
-use Rattle.zones.specs.declared.blues.Zones.{Zones}
 use Rattle.zones.specs.declared.blues.Nearest.{Nearest}
 use Rattle.zones.specs.Zones.{noBlue, familyEdge, nearer, nearestFrom, firstToo}
 use Rattle.zones.proofs.Taken.{taken-more, taken-ends}
@@ -55,31 +51,3 @@ module _ (flat limit : Fixed) (near : Nearest) where
       firstToo flat limit near (take n bs) ≡ nearer flat limit near (getD bs 0 noBlue .top)
   unfolding firstToo
   first-some (suc n) (b ∷ bs) some l = refl
-
--- the zones before i changed alike; at the count this is `eachIn`
-abbrev pub eachBefore : (BlueZone → BlueZone) → Zones → ℕ → Zones
-eachBefore f q i =
-    record {
-      list = map f (take i (q .list)) ++ drop i (q .list);
-      count = q .count;
-      greatest = q .greatest;
-    }
-
--- where the zones before i are changed, changing zone i too leaves those before i + 1 changed: of a
--- list
-each-set : (f : BlueZone → BlueZone) (zs : List BlueZone) (i : ℕ) (d : BlueZone) →
-    let before = map f (take i zs) ++ drop i zs in
-    set before i (f (getD before i d)) ≡ map f (take (suc i) zs) ++ drop (suc i) zs
-each-set f [] zero d = refl
-each-set f [] (suc i) d = refl
-each-set f (z ∷ zs) zero d = refl
-each-set f (z ∷ zs) (suc i) d = ap (λ l. f z ∷ l) (each-set f zs i d)
-
--- and of the zones held by value
-pub each-more : (f : BlueZone → BlueZone) (q : Zones) (i : ℕ) (d : BlueZone) {p : Zones} → p ≡ eachBefore f q i →
-    _≡_ {A = Zones} (record {
-      list = set (p .list) i (f (getD (p .list) i d));
-      count = p .count;
-      greatest = p .greatest;
-    }) (eachBefore f q (i + 1))
-each-more f q i d e = rw (e, add-one i, each-set f (q .list) i d)

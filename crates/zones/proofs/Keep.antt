@@ -1,12 +1,13 @@
 -- Laws of the zones that are kept. Assumes nothing.
 use mathlib.Core.Path.{_≡_, refl, sym, ap, _∙_}
 use mathlib.Core.Bool.{Bool, true, false, cond}
-use mathlib.Core.List.{List, [], _∷_, _++_, map, append-assoc, append-nil}
+use mathlib.Core.List.{List, [], _∷_, _++_, map, map-append, append-assoc, append-nil}
 use Prim.Native.Nat.{ℕ, suc, _+_, _-_, _≤_, _<_}
+use native.Mathlib.Numerals.{add-one}
 use native.Mathlib.Omega.{arith}
 use lib.ListN.{length, take, drop, getD, set, length-append, length-take, length-map}
 use borrow.Author.Tests.{ne-eqb}
-use lib.Seq.{set-at, take-append-seam, drop-append-seam}
+use lib.Seq.{set-at, take-suc, length-take-le}
 use Rattle.fixed.specs.declared.Fixed.{Fixed}
 use Rattle.fixed.specs.Fixed.{ZERO, subF, lessF, maxF}
 use Rattle.stems.specs.declared.edge.Side.{Side}
@@ -16,17 +17,8 @@ use Rattle.zones.specs.declared.blues.Blues.{Blues}
 use Rattle.zones.specs.declared.blues.BlueZone.{BlueZone}
 use Rattle.zones.specs.declared.blues.Zones.{Zones}
 use Rattle.zones.specs.Zones.{noBlue, noZone, heightOf, zoneOf, sift, bluesZones, greatestFrom, filled, packed}
-use Rattle.zones.specs.Zones.{noZones, pushed, keptSide, keptIn, readIn, listOf, kept, eachIn}
+use Rattle.zones.specs.Zones.{noZones, pushed, keptSide, keptIn, readIn, listOf, kept}
 use Rattle.zones.proofs.Taken.{taken-more, taken-ends}
-
--- a pair read adds at most one zone
-pub kept-count : (other : Bool) (q : Zones) (b : Blue) → keptIn other q b .count ≤ q .count + 1
-unfolding keptIn
-kept-count other q b = go (lessF (heightOf b) ZERO)
-  where
-    go : (t : Bool) → cond t q (pushed q (zoneOf (keptSide other (q .count)) b) (heightOf b)) .count ≤ q .count + 1
-    go true = omega arith
-    go false = omega arith
 
 module _ (other : Bool) (q : Zones) (n : ℕ) (bs : List Blue) (fits : n ≤ length bs) (i : ℕ) where
   -- a pair more of those to be read
@@ -55,16 +47,17 @@ unfolding greatestFrom
 greatest-last g [] z = refl
 greatest-last g (y ∷ ys) z = greatest-last (maxF g (span y)) ys z
 
--- one zone more
+-- one zone more, behind n others
+fill-more : (zs : List BlueZone) (z : BlueZone) (n : ℕ) → length zs ≡ n → n < 12 →
+    set (filled zs) n z ≡ filled (zs ++ z ∷ [])
+fill-more zs z n e h =
+    let left : 12 - length zs ≡ suc (12 - (length zs + 1)) = omega arith in
+    rw (length-append zs (z ∷ []), left) (set-at zs noZone _ z n e ∙ sym (append-assoc zs (z ∷ []) _))
+
 push-packed : (zs : List BlueZone) (z : BlueZone) → length zs < 12 →
     pushed (packed zs) z (span z) ≡ packed (zs ++ z ∷ [])
 push-packed zs z h =
-    let more : length (zs ++ z ∷ []) ≡ length zs + 1 = length-append zs (z ∷ []) in
-    let left : 12 - length zs ≡ suc (12 - (length zs + 1)) = omega arith in
-    let stored : set (filled zs) (length zs) z ≡
-    filled (zs ++ z ∷ []) = rw (left, more)
-    (set-at zs noZone _ z (length zs) refl ∙ sym (append-assoc zs (z ∷ []) _)) in
-    rw (stored, more, greatest-last ZERO zs z)
+    rw (fill-more zs z (length zs) refl h, length-append zs (z ∷ []), greatest-last ZERO zs z)
 
 -- ---- a list that is read
 -- what every zone is that is kept once there are m
@@ -141,6 +134,9 @@ kept-length blues others h =
     simp (length-append, length-map)
     (omega (arith, blues-length (listOf blues), sift-length five, length-take 5 (listOf others)))
 
--- zones that are changed alike
-pub each-filled : (f : BlueZone → BlueZone) (zs : List BlueZone) → eachIn f (packed zs) .list ≡ filled (map f zs)
-each-filled f zs = rw (take-append-seam zs, drop-append-seam zs, length-map zs f)
+-- zones that are changed alike: one more
+pub each-more : (f : BlueZone → BlueZone) (zs : List BlueZone) (i : ℕ) → i < length zs → i < 12 →
+    set (filled (map f (take i zs))) i (f (getD zs i noZone)) ≡ filled (map f (take (i + 1) zs))
+each-more f zs i h k =
+    rw (add-one i, take-suc zs i noZone, map-append)
+    (fill-more (map f (take i zs)) _ i (simp length-map (length-take-le i zs (omega arith))) k)

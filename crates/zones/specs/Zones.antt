@@ -185,12 +185,3 @@ keptIn other q b = cond (lessF (heightOf b) ZERO) q (pushed q (zoneOf (keptSide 
 unfoldable pub readIn : Bool → Zones → List Blue → Zones
 readIn other q [] = q
 readIn other q (b ∷ bs) = readIn other (keptIn other q b) bs
-
--- every zone changed alike
-abbrev pub eachIn : (BlueZone → BlueZone) → Zones → Zones
-eachIn f q =
-    record {
-      list = map f (take (q .count) (q .list)) ++ drop (q .count) (q .list);
-      count = q .count;
-      greatest = q .greatest;
-    }

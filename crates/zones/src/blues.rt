@@ -6,7 +6,7 @@ ghost use mathlib.Core.Path.{_≡_};
 ghost use Prim.Native.Nat.{_+_, _<_, _≤_};
 ghost use lib.ListN.{take, getD};
 ghost use Rattle.zones.specs.Zones.{maxBlues, maxZones, heightOf, whollyBelow, whollyAbove, noBlue, noZone};
-ghost use Rattle.zones.specs.Zones.{zoneOf, noZones, pushed, keptIn, readIn, eachIn, familyEdge, familyFrom};
+ghost use Rattle.zones.specs.Zones.{zoneOf, noZones, keptSide, readIn, familyEdge, familyFrom};
 ghost use Rattle.zones.specs.Zones.{nearer, nearestOf, movedFlat, deviceFlat};
 
 // How many pairs a list has at most, how many of the other blues count, and how many zones that
@@ -168,40 +168,7 @@ impl Zones {
         }
     }
 
-    // One zone more.
-    pub(crate) fn push(self, zone: BlueZone, height: Fixed) -> Zones
-        requires { ⌜ self .count < maxZones ⌝ }
-        ensures { λ r. ⌜ r ≡ pushed self zone height ⌝ }
-    {
-        let mut zones = self;
-        let at = zones.count;
-        zones.list[at] = zone;
-        zones.count = at + 1;
-        let greatest = zones.greatest.max(height);
-        zones.greatest = greatest;
-        zones
-    }
-
-    // From `build_zones`: a pair is kept unless its height is negative. The first zone of all is a
-    // bottom zone, and so is every zone of the other blues.
-    pub(crate) fn keep(self, pair: Blue, other: bool) -> Zones
-        requires { ⌜ self .count < maxZones ⌝ }
-        ensures { λ r. ⌜ r ≡ keptIn other self pair ⌝ }
-    {
-        let height = pair.height();
-        if height.less(Fixed::ZERO) {
-            return self;
-        }
-        if other {
-            return self.push(BlueZone::new(pair, Side::Bottom), height);
-        }
-        if self.count == 0 {
-            return self.push(BlueZone::new(pair, Side::Bottom), height);
-        }
-        self.push(BlueZone::new(pair, Side::Top), height)
-    }
-
-    // From `build_zones`: the first n pairs of a list.
+    // From `build_zones`: the first n pairs of a list. A pair is kept unless its height is negative.
     pub(crate) fn read(self, blues: Blues, n: usize, other: bool) -> Zones
         requires { ⌜ (n ≤ maxBlues) × (self .count + n ≤ maxZones) ⌝ }
         ensures { λ r. ⌜ r ≡ readIn other self (take n (blues .pairs)) ⌝ }
@@ -209,28 +176,15 @@ impl Zones {
         let mut zones = self;
         for i in 0..n {
             let pair = blues.pairs[i];
-            zones = zones.keep(pair, other);
-        }
-        zones
-    }
-
-    // From `build_zones`: every flat edge by the family, then on the device.
-    pub(crate) fn finish(
-        self,
-        others: Blues,
-        blues: Blues,
-        limit: Fixed,
-        scale: Fixed,
-        boost: Fixed,
-    ) -> Zones
-        requires { ⌜ self .count ≤ maxZones ⌝ }
-        ensures { λ r. ⌜ r ≡ eachIn (λ z. deviceFlat scale boost (movedFlat others blues limit z)) self ⌝ }
-    {
-        let mut zones = self;
-        let count = zones.count;
-        for i in 0..count {
-            let zone = zones.list[i];
-            zones.list[i] = zone.by_family(others, blues, limit).on_device(scale, boost);
+            let height = pair.height();
+            if height.less(Fixed::ZERO) {
+                continue;
+            }
+            let at = zones.count;
+            zones.list[at] = BlueZone::new(pair, kept_side(other, at));
+            zones.count = at + 1;
+            let greatest = zones.greatest.max(height);
+            zones.greatest = greatest;
         }
         zones
     }
@@ -296,4 +250,18 @@ fn first_for(side: Side) -> usize
         Side::Bottom => 0,
         Side::Top => 1,
     }
+}
+
+// From `build_zones`: what a zone is that is kept after n others. The first of all is a bottom zone,
+// and so is every zone of the other blues.
+fn kept_side(other: bool, n: usize) -> Side
+    ensures { λ r. ⌜ r ≡ keptSide other n ⌝ }
+{
+    if other {
+        return Side::Bottom;
+    }
+    if n == 0 {
+        return Side::Bottom;
+    }
+    Side::Top
 }

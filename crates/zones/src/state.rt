@@ -122,38 +122,36 @@ impl HintState {
         let blue_scale = params.blue_scale;
         let blue_shift = params.blue_shift;
         let blue_fuzz = params.blue_fuzz;
-        if params.em_box() {
-            let none = BlueZone::none();
-            return HintState {
-                scale,
-                blue_scale,
-                blue_shift,
-                blue_fuzz,
-                suppress_overshoot: false,
-                do_em_box_hints: true,
-                boost: Fixed::ZERO,
-                zones: [none; MAX_BLUE_ZONES],
-                zone_count: 0,
-            };
+        let none = BlueZone::none();
+        let mut state = HintState {
+            scale,
+            blue_scale,
+            blue_shift,
+            blue_fuzz,
+            suppress_overshoot: false,
+            do_em_box_hints: params.em_box(),
+            boost: Fixed::ZERO,
+            zones: [none; MAX_BLUE_ZONES],
+            zone_count: 0,
+        };
+        if state.do_em_box_hints {
+            return state;
         }
         let kept = params.kept();
         let most = clamped(blue_scale, kept.greatest);
         let boost = boost_at(scale, most);
+        state.blue_scale = most;
+        state.suppress_overshoot = scale.less(most);
+        state.boost = boost;
+        state.zone_count = kept.count;
         let others = params.family_other_blues;
         let blues = params.family_blues;
         let limit = Fixed::ONE.div(scale);
-        let done = kept.finish(others, blues, limit, scale, boost);
-        let zones = done.list;
-        HintState {
-            scale,
-            blue_scale: most,
-            blue_shift,
-            blue_fuzz,
-            suppress_overshoot: scale.less(most),
-            do_em_box_hints: false,
-            boost,
-            zones,
-            zone_count: done.count,
+        // Every flat edge goes to the family's nearest, then to the device.
+        for i in 0..kept.count {
+            let zone = kept.list[i];
+            state.zones[i] = zone.by_family(others, blues, limit).on_device(scale, boost);
         }
+        state
     }
 }

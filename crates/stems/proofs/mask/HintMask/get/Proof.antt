@@ -1,9 +1,7 @@
--- `HintMask::get` meets its contract: no stem past the twelve bytes is active, and a weight is
--- never 0. Assumes nothing.
+-- `HintMask::get` meets its contract: no stem past the twelve bytes is active. Assumes nothing.
 use mathlib.Core.Path.{_≡_, sym}
 use native.Mathlib.Omega.{arith}
 use lib.ListN.{length}
-use lib.Pow.{pow-pos}
 use borrow.Author.Needs.{needs}
 use Rattle.stems.specs.Mask.{isActive}
 use Rattle.stems.proofs.Masks.{past-off}
@@ -18,15 +16,18 @@ returns c =
 element-copy-out-byte : tie.Need-element-copy-out-byte
 element-copy-out-byte c = search needs
 
-msb-mask-requires : tie.Need-msb-mask-requires
-msb-mask-requires c κs = search needs
+sub-result : tie.Need-sub-result
+sub-result c = search needs
 
-div-result : tie.Need-div-result
-div-result c = rw (c .msb-mask .ensures) (pow-pos _)
+cast-result : tie.Need-cast-result
+cast-result c = search needs
+
+shr-result : tie.Need-shr-result
+shr-result c = search needs
 
 returns-2 : tie.Need-returns-2
 unfolding isActive
-returns-2 c = rw (c .msb-mask .ensures)
+returns-2 c = search needs
 
 pub get-spec : {M : Type 1} → statement M
-get-spec = tie.close (tie.spec returns element-copy-out-byte msb-mask-requires div-result returns-2)
+get-spec = tie.close (tie.spec returns element-copy-out-byte sub-result cast-result shr-result returns-2)

@@ -1,116 +1,168 @@
--- `HintState::new` meets its contract, by those of its calls. Assumes nothing.
-use mathlib.Core.Path.{_≡_, sym, ap, _∙_}
-use mathlib.Core.List.{map}
+-- `HintState::new` meets its contract. The loop's invariant: the zones are the first `i` of those
+-- kept, moved by the family and set on the device, and the rest of the state is as it was before
+-- the loop. The measure is what is left of the count. Assumes nothing.
+use mathlib.Core.Path.{_≡_, refl, sym, ap, _∙_}
+use mathlib.Core.List.{List, [], map}
+use Prim.Native.Nat.{_-_, _≤_}
 use native.Mathlib.Omega.{arith}
-use lib.ListN.{length, length-take, length-map}
+use lib.ListN.{length, take, length-take, length-map}
+use lib.Seq.{take-append-seam}
 use borrow.Author.Needs.{needs}
-use Rattle.fixed.specs.declared.Fixed.{Fixed}
-use Rattle.zones.specs.declared.blues.Zones.{Zones}
-use Rattle.zones.specs.declared.state.HintParams.{HintParams}
-use Rattle.zones.specs.Zones.{packed, eachIn, filled, movedFlat, deviceFlat}
-use Rattle.zones.specs.State.{keptOf, blueScaleOf, clampedScale, boostOf, suppresses, finished, stateOf}
-use Rattle.zones.proofs.Keep.{kept-length, each-filled}
+use Rattle.zones.specs.declared.blues.BlueZone.{BlueZone}
+use Rattle.zones.specs.declared.state.HintState.{HintState}
+use Rattle.zones.specs.Zones.{filled, movedFlat, deviceFlat}
+use Rattle.zones.specs.State.{stateOf}
+use Rattle.zones.proofs.Keep.{kept-length, each-more}
 use Rattle.zones.proofs.state.HintState.new.Statement.{statement}
 use Rattle.zones.proofs.state.HintState.new.Tie as tie
 
-em-box-requires : tie.Need-em-box-requires
-em-box-requires c κs = search needs
+-- a state with other zones
+abbrev withZones : HintState → List BlueZone → HintState
+withZones s zs =
+    record {
+      scale = s .scale;
+      «blue_scale» = s .«blue_scale»;
+      «blue_shift» = s .«blue_shift»;
+      «blue_fuzz» = s .«blue_fuzz»;
+      «suppress_overshoot» = s .«suppress_overshoot»;
+      «do_em_box_hints» = s .«do_em_box_hints»;
+      boost = s .boost;
+      zones = zs;
+      «zone_count» = s .«zone_count»;
+    }
 
-none-requires : tie.Need-none-requires
-none-requires c κs = search needs
+abbrev Inv-loop : tie.InvT-loop
+Inv-loop scale state₀ kept boost others blues limit i₀ i-end state i =
+    (withZones state [] ≡ withZones state₀ []) × ((state .zones ≡
+    filled (map (λ z. deviceFlat scale boost (movedFlat others blues limit z)) (take i (kept .list)))) ×
+    ((i ≤ kept .count) × (kept .count ≤ 12)))
 
-returns : tie.Need-returns
-unfolding stateOf
-returns c = rw (sym (c .before .before .em-box .ensures), c .before .if1 .taken, c .none .ensures)
+abbrev μ-loop : tie.MeasureT-loop
+μ-loop scale state₀ kept boost others blues limit i₀ i-end state i = i-end - i
 
-kept-requires : tie.Need-kept-requires
-kept-requires c κs = search needs
-
-clamped-requires : tie.Need-clamped-requires
-clamped-requires c κs = search needs
-
-boost-at-requires : tie.Need-boost-at-requires
-boost-at-requires c κs = search needs
-
-div-requires : tie.Need-div-requires
-div-requires c κs = search needs
-
--- what has been made of the scale, the boost and the zones
-module _ (c : tie.After-boost-at) where
-  abbrev begin : tie.Start
-  begin = c .before .before .before .before .before .before .before .before
-
-  most : c .before .clamped .result ≡ blueScaleOf (begin .args .params)
-  most =
-      c .before .clamped .ensures ∙
-      ap (λ (q : Zones). clampedScale (begin .args .params .«blue_scale») (q .greatest))
-      (c .before .before .kept .ensures)
-
-  boost : c .boost-at .result ≡ boostOf (begin .args .scale) (blueScaleOf (begin .args .params))
-  boost = c .boost-at .ensures ∙ ap (boostOf (begin .args .scale)) most
-
-module _ (c : tie.After-finish) where
-  abbrev made : tie.After-boost-at
-  made = c .before .before .before .before
-
-  abbrev given : HintParams
-  given = begin made .args .params
-
-  abbrev at : Fixed
-  at = begin made .args .scale
-
-  abbrev by : Fixed
-  by = boostOf at (blueScaleOf given)
-
-  done : c .finish .result ≡ eachIn (finished given at by) (packed (keptOf given))
-  done =
-      c .finish .ensures
-      ∙ ap (λ (x : Fixed). eachIn
-      (λ z. deviceFlat at x (movedFlat (given .«family_other_blues») (given .«family_blues»)
-      (c .before .div .result) z)) (made .before .before .kept .result)) (boost made)
-      ∙ ap (λ (l : Fixed). eachIn
-      (λ z. deviceFlat at by (movedFlat (given .«family_other_blues») (given .«family_blues») l z))
-      (made .before .before .kept .result)) (c .before .div .ensures)
-      ∙ ap (eachIn (finished given at by)) (made .before .before .kept .ensures)
-
-  list : c .finish .result .list ≡ filled (map (finished given at by) (keptOf given))
-  list = ap (λ (q : Zones). q .list) done ∙ each-filled (finished given at by) (keptOf given)
-
-  count : c .finish .result .count ≡ length (map (finished given at by) (keptOf given))
-  count = ap (λ (q : Zones). q .count) done ∙ sym (length-map (keptOf given) (finished given at by))
-
-finish-requires : tie.Need-finish-requires
-finish-requires c κs =
-    let b = c .before .before .before in
-    let p = begin b .args .params in
-    let seven : length (p .blues .pairs) ≡
-    7 = simp length-map at (begin b .good .0 .1 .1 .1 .1 .1 .1 .0 .1 .1 .0 .1 .0 .1) in
-    rw (b .before .before .kept .ensures)
+-- at most twelve zones are kept
+few : (c : tie.After-kept Inv-loop μ-loop) → c .kept .result .count ≤ 12
+few c =
+    let s = c .before .before .before .before .before .before .before in
+    let p = s .args .params in
+    let seven : length (p .blues .pairs) ≡ 7 = simp length-map at (s .good .0 .1 .1 .1 .1 .1 .1 .0 .1 .1 .0 .1 .0 .1) in
+    rw (c .kept .ensures)
     (kept-length (p .blues) (p .«other_blues») (omega (arith, length-take (p .blues .count) (p .blues .pairs))))
 
-less-requires : tie.Need-less-requires
+none-requires : tie.Need-none-requires Inv-loop μ-loop
+none-requires c κs = search needs
+
+em-box-requires : tie.Need-em-box-requires Inv-loop μ-loop
+em-box-requires c κs = search needs
+
+returns : tie.Need-returns Inv-loop μ-loop
+unfolding stateOf
+returns c = rw (sym (c .before .em-box .ensures), c .if1 .taken, c .before .before .none .ensures)
+
+kept-requires : tie.Need-kept-requires Inv-loop μ-loop
+kept-requires c κs = search needs
+
+clamped-requires : tie.Need-clamped-requires Inv-loop μ-loop
+clamped-requires c κs = search needs
+
+boost-at-requires : tie.Need-boost-at-requires Inv-loop μ-loop
+boost-at-requires c κs = search needs
+
+less-requires : tie.Need-less-requires Inv-loop μ-loop
 less-requires c κs = search needs
 
-returns-2 : tie.Need-returns-2
+div-requires : tie.Need-div-requires Inv-loop μ-loop
+div-requires c κs = search needs
+
+loop-holds : tie.Need-loop-holds Inv-loop μ-loop
+loop-holds c = (
+  refl,
+  (
+    rw (c .before .before .before .before .before .before .before .before .before .before .none .ensures),
+    (search needs, few (c .before .before .before .before .before .before .before)),
+  ),
+)
+
+mul-zone : tie.Need-mul-zone Inv-loop μ-loop
+mul-zone c = search needs
+
+element-copy-out-zone : tie.Need-element-copy-out-zone Inv-loop μ-loop
+element-copy-out-zone c = search needs
+
+by-family-requires : tie.Need-by-family-requires Inv-loop μ-loop
+by-family-requires c κs = search needs
+
+on-device-requires : tie.Need-on-device-requires Inv-loop μ-loop
+on-device-requires c κs = search needs
+
+mul-t23 : tie.Need-mul-t23 Inv-loop μ-loop
+mul-t23 c = search needs
+
+element-set-from-state : tie.Need-element-set-from-state Inv-loop μ-loop
+element-set-from-state c = search needs
+
+add-i : tie.Need-add-i Inv-loop μ-loop
+add-i c = search needs
+
+loop-less : tie.Need-loop-less Inv-loop μ-loop
+loop-less c = search needs
+
+loop-again : tie.Need-loop-again Inv-loop μ-loop
+loop-again c =
+    let at = c .before .before .before .before in
+    let k = at .before .before .before .before .before .before .before .before in
+    let twelve : length (k .kept .result .list) ≡ 12 = simp length-map at (k .kept .ok .1 .1 .0 .1 .0 .1) in (
+      at .loop .inv .0,
+      (
+        rw (c .on-device .ensures, c .before .by-family .ensures, at .loop .inv .1 .0)
+            (each-more _ (k .kept .result .list) (at .loop .i) (omega arith) (omega arith)),
+        (search needs, search needs),
+      ),
+    )
+
+returns-2 : tie.Need-returns-2 Inv-loop μ-loop
 unfolding stateOf
 returns-2 c =
-    let f = c .before .before in
-    let e = made f .before .before .before in
-    let suppress : c .less .result ≡ suppresses (at f) (blueScaleOf (given f)) = c .less .ensures ∙
-    ap (suppresses (at f)) (most (made f)) in
-    rw (sym (e .before .em-box .ensures), e .if1 .left) (cc (most (made f), boost (made f), list f, count f, suppress))
+    let at = c .before in
+    let l = at .before .before .before .before in
+    let k = l .before .before .before .before in
+    let all : at .loop .i ≡ k .kept .result .count = omega arith in
+    ap (λ (t : HintState). withZones t (at .loop .state .zones)) (at .loop .inv .0) ∙ rw (
+      at .loop .inv .1 .0,
+      all,
+      at .before .div .ensures,
+      l .less .ensures,
+      l .before .boost-at .ensures,
+      l .before .before .clamped .ensures,
+      k .kept .ensures,
+      take-append-seam,
+      sym (k .before .before .em-box .ensures),
+      k .before .if1 .left,
+      length-map,
+    )
 
 pub new-spec : {M : Type 1} → statement M
 new-spec =
     tie.close
     (tie.spec
-    em-box-requires
+    Inv-loop
+    μ-loop
     none-requires
+    em-box-requires
     returns
     kept-requires
     clamped-requires
     boost-at-requires
-    div-requires
-    finish-requires
     less-requires
+    div-requires
+    loop-holds
+    mul-zone
+    element-copy-out-zone
+    by-family-requires
+    on-device-requires
+    mul-t23
+    element-set-from-state
+    add-i
+    loop-less
+    loop-again
     returns-2)
