@@ -34,7 +34,7 @@ use Rattle.hintmap.proofs.WholeStems.{Good, new-good, insert-good}
 use Rattle.hintmap.proofs.Made.{made-setup}
 use Rattle.adjust.specs.Second.{adjustOf}
 use Rattle.adjust.proofs.Keeps.{still, adjust-kept}
-use Rattle.build.specs.declared.place.Placed.{Placed}
+use Rattle.build.specs.Place.{Placed}
 use Rattle.stems.specs.declared.edge.Stems.{Stems}
 use Rattle.build.specs.Ghosts.{emBottom, emTop, emBoxed}
 use Rattle.build.specs.Place.{declaredIn, lockedTurn, freeTurn}

@@ -10,7 +10,7 @@ use Rattle.stems.specs.declared.edge.StemHint.{StemHint}
 use Rattle.zones.specs.declared.state.HintState.{HintState}
 use Rattle.zones.proofs.Taken.{taken-more, taken-ends}
 use Rattle.hintmap.specs.declared.map.HintMap.{HintMap}
-use Rattle.build.specs.declared.place.Placed.{Placed}
+use Rattle.build.specs.Place.{Placed}
 use Rattle.stems.specs.declared.edge.Stems.{Stems}
 use Rattle.build.specs.Place.{declaredIn, lockedTurn, freeTurn, lockedTurns, freeTurns}
 

@@ -17,7 +17,7 @@ use Rattle.hintmap.proofs.Outcome.{by-outcome}
 use Rattle.hintmap.proofs.WholeStems.{Good, new-good, valid-good, insert-good}
 use Rattle.adjust.specs.Second.{adjustOf}
 use Rattle.adjust.proofs.Keeps.{adjust-kept, kept-length, adjust-stems}
-use Rattle.build.specs.declared.place.Placed.{Placed}
+use Rattle.build.specs.Place.{Placed}
 use Rattle.stems.specs.declared.edge.Stems.{Stems}
 use Rattle.build.specs.Ghosts.{baselined}
 use Rattle.build.specs.Place.{declaredIn, lockedTurns, freeTurns}

@@ -28,7 +28,7 @@ use Rattle.hintmap.specs.Insert.{chosen, Valid, insertIn}
 use Rattle.hintmap.specs.WholeStems.{Made, Like}
 use Rattle.hintmap.proofs.Alike.{like-refl}
 use Rattle.hintmap.proofs.Made.{made-ghost, made-valid, made-like, made-setup}
-use Rattle.build.specs.declared.place.Placed.{Placed}
+use Rattle.build.specs.Place.{Placed}
 use Rattle.build.specs.Ghosts.{ghostAt, emBottom, emTop, emBoxed, uncovered, baselineBy, baselined}
 use Rattle.build.specs.Place.{preparedBy, preparedOf, putBy, lockedBy, lockedTurn, freeBy, freeTurn}
 

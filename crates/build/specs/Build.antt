@@ -12,11 +12,10 @@ use Rattle.zones.specs.declared.state.HintState.{HintState}
 use Rattle.hintmap.specs.declared.map.HintMap.{HintMap}
 use Rattle.hintmap.specs.Map.{newMap, validMap, view}
 use Rattle.adjust.specs.Second.{adjustOf}
-use Rattle.build.specs.declared.place.Placed.{Placed}
 use Rattle.stems.specs.declared.edge.Stems.{Stems}
 use Rattle.build.specs.declared.map.Built.{Built}
 use Rattle.build.specs.Ghosts.{emBoxed, baselined}
-use Rattle.build.specs.Place.{declaredIn, lockedTurns, freeTurns}
+use Rattle.build.specs.Place.{Placed, declaredIn, lockedTurns, freeTurns}
 
 -- a new map, with the em box's ghosts where they are asked for
 abbrev pub boxedMap : HintState → HintMap → Bool → HintMap

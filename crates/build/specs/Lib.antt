@@ -1,3 +1,4 @@
 pub mod Ghosts
 pub mod Place
 pub mod Build
+pub mod Made

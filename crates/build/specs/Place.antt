@@ -3,6 +3,7 @@ use mathlib.Core.Bool.{Bool, true, false, _||_}
 use mathlib.Core.List.{List, [], _∷_}
 use Prim.Native.Nat.{ℕ, suc}
 use lib.ListN.{take}
+use Rattle.stems.specs.declared.mask.HintMask.{HintMask}
 use Rattle.stems.specs.declared.edge.StemHint.{StemHint}
 use Rattle.stems.specs.declared.edge.Side.the-variants.{Bottom, Top}
 use Rattle.stems.specs.declared.edge.Hint.{Hint}
@@ -15,7 +16,11 @@ use Rattle.zones.specs.Capture.{captureOf}
 use Rattle.hintmap.specs.declared.map.HintMap.{HintMap}
 use Rattle.hintmap.specs.Insert.{chosen, insertIn}
 use Rattle.stems.specs.declared.edge.Stems.{Stems}
-use Rattle.build.specs.declared.place.Placed.{Placed}
+
+-- the map so far, and the stems that are still to be placed
+pub record Placed : Type 0 where
+  pub map : HintMap
+  pub rest : HintMask
 
 -- the stems that are declared
 abbrev pub declaredIn : Stems → List StemHint

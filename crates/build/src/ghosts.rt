@@ -1,13 +1,19 @@
 // The edges that no stem has: the em box and the baseline.
 use fixed::Fixed;
 use hintmap::Edges;
-use hintmap::HintMap;
+use hintmap::insert_edges;
 use stems::Hint;
 use stems::Kind;
+use stems::LINES;
+use stems::TAGS;
+use stems::height_at;
 ghost use mathlib.Core.Path.{_≡_};
 ghost use Prim.Native.Nat.{_≤_};
-ghost use Rattle.build.specs.Ghosts.{ghostAt, emBottom, emTop, emBoxed, uncovered, baselined};
 ghost use Rattle.stems.specs.Edge.{maxHints};
+ghost use Rattle.stems.specs.Lists.{Whole};
+ghost use Rattle.hintmap.specs.Lent.{Lent};
+ghost use Rattle.build.specs.Ghosts.{ghostAt, emBottom, emTop};
+ghost use Rattle.build.specs.Made.{Boxed, Uncovered, Baselined};
 
 // The ghosts of the em box lie one bit outside of it, so that a zone or a stem at its edge is none
 // of them.
@@ -46,47 +52,55 @@ fn em_top(scale: Fixed) -> Hint
     ghost_at(Kind::GhostTop, BOX_TOP, device, scale)
 }
 
-// From `build`: the em box's ghosts are put in, where it is asked for.
-pub(crate) fn with_em_box(map: HintMap, wanted: bool, initial: HintMap, given: bool) -> HintMap
-    ensures { λ r. ⌜ r ≡ emBoxed wanted initial given map ⌝ }
+// From `build`: the em box's ghosts are put into a map with no edges, where it is asked for. They are
+// locked, so that no initial map moves them. Gives the map's length.
+pub(crate) fn put_em_box(
+    lines: &mut [i32; LINES],
+    tags: &mut [u8; TAGS],
+    wanted: bool,
+    scale: Fixed,
+) -> usize
+    requires { ⌜ Whole (now lines) (now tags) ⌝ }
+    ensures { λ r. ⌜ Boxed wanted scale r (now (lines .exit)) (now (tags .exit)) ⌝ }
 {
     if wanted {
-        let scale = map.scale;
         let bottom = Edges::One(em_bottom(scale));
         let top = Edges::One(em_top(scale));
-        let one = map.insert(bottom, initial, given);
-        return one.insert(top, initial, given);
+        let one = insert_edges(lines, tags, 0, bottom);
+        return insert_edges(lines, tags, one, top);
     }
-    map
+    0
 }
 
 // From `build`: no edge, or all above the baseline, or all below.
-fn is_uncovered(map: HintMap) -> bool
-    requires { ⌜ map .len ≤ maxHints ⌝ }
-    ensures { λ r. ⌜ r ≡ uncovered map ⌝ }
+fn is_uncovered(lines: &[i32; LINES], len: usize) -> bool
+    requires { ⌜ len ≤ maxHints ⌝ }
+    ensures { λ r. ⌜ Uncovered (now (lines .entry)) len r ⌝ }
 {
-    let len = map.len;
     if len == 0 {
         return true;
     }
-    let first = map.edges[0];
-    if Fixed::ZERO.less(first.cs_coord) {
+    if Fixed::ZERO.less(height_at(lines, 0)) {
         return true;
     }
-    let last = map.edges[len - 1];
-    last.cs_coord.less(Fixed::ZERO)
+    height_at(lines, len - 1).less(Fixed::ZERO)
 }
 
 // From `build`: a glyph whose hints leave the baseline out has it locked in the initial map all the
-// same.
-pub(crate) fn with_baseline(map: HintMap) -> HintMap
-    requires { ⌜ map .len ≤ maxHints ⌝ }
-    ensures { λ r. ⌜ r ≡ baselined map ⌝ }
+// same. Gives the new length.
+pub(crate) fn put_baseline(
+    lines: &mut [i32; LINES],
+    tags: &mut [u8; TAGS],
+    len: usize,
+    scale: Fixed,
+) -> usize
+    requires { ⌜ Lent (now lines) (now tags) len ⌝ }
+    ensures { λ r. ⌜ Baselined (now (lines .entry)) (now (tags .entry)) len scale r (now (lines .exit))
+        (now (tags .exit)) ⌝ }
 {
-    if is_uncovered(map) {
-        let scale = map.scale;
+    if is_uncovered(lines, len) {
         let baseline = ghost_at(Kind::GhostBottom, Fixed::ZERO, Fixed::ZERO, scale);
-        return map.insert(Edges::One(baseline), map, false);
+        return insert_edges(lines, tags, len, Edges::One(baseline));
     }
-    map
+    len
 }

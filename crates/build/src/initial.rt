@@ -1,28 +1,53 @@
 // The initial map.
-use crate::ghosts::with_baseline;
-use crate::ghosts::with_em_box;
-use crate::place::Placed;
+use crate::ghosts::put_baseline;
+use crate::ghosts::put_em_box;
 use crate::place::place_locked;
 use adjust::adjust;
+use fixed::least;
 use hintmap::HintMap;
-use stems::HintMask;
+use stems::HINT_MASK_SIZE;
+use stems::LINES;
+use stems::MAX_HINTS;
+use stems::STEM_NUMBERS;
 use stems::Stems;
+use stems::TAGS;
 use zones::HintState;
 ghost use mathlib.Core.Path.{_≡_};
+ghost use Prim.Native.Nat.{_≤_};
+ghost use Rattle.stems.specs.Edge.{maxHints};
+ghost use Rattle.stems.specs.Lists.{Whole, stemsIn};
 ghost use Rattle.build.specs.Build.{initialOf};
+ghost use Rattle.build.specs.Made.{MadeInitial};
 
-// Ports `build` where it is the initial map's: all stems that are locked or captured, and the
-// baseline.
+// Ports `build` where it is the initial map's, into lists: all stems that are locked or captured, and
+// the baseline. Gives the map's length.
+pub fn make_initial(
+    lines: &mut [i32; LINES],
+    tags: &mut [u8; TAGS],
+    state: HintState,
+    stems: &[i32; STEM_NUMBERS],
+    count: usize,
+) -> usize
+    requires { ⌜ Whole (now lines) (now tags) × (count ≤ maxHints) ⌝ }
+    ensures { λ r. ⌜ MadeInitial state (stemsIn (now (stems .entry)) count) r (now (lines .exit)) (now (tags .exit)) ⌝ }
+{
+    let boxed = put_em_box(lines, tags, state.do_em_box_hints, state.scale);
+    let mut rest = [255u8; HINT_MASK_SIZE];
+    let placed = place_locked(lines, tags, boxed, &mut rest, state, stems, count);
+    let len = put_baseline(lines, tags, placed, state.scale);
+    adjust(lines, tags, len);
+    len
+}
+
+// The same of stems by value.
 pub fn build_initial(state: HintState, stems: Stems) -> HintMap
     ensures { λ r. ⌜ r ≡ initialOf state stems ⌝ }
 {
-    let none = HintMap::new(state.scale);
-    let boxed = with_em_box(none, state.do_em_box_hints, none, false);
-    let start = Placed {
-        map: boxed,
-        rest: HintMask::all(),
-    };
-    let placed = place_locked(start, state, stems, none, false);
-    let map = placed.map;
-    adjust(with_baseline(map)).validate()
+    let mut numbers = [0i32; STEM_NUMBERS];
+    stems.list(&mut numbers);
+    let mut lines = [0i32; LINES];
+    let mut tags = [0u8; TAGS];
+    let count = least(stems.count, MAX_HINTS);
+    let len = make_initial(&mut lines, &mut tags, state, &numbers, count);
+    HintMap::from_lists(&lines, &tags, len, state.scale).validate()
 }

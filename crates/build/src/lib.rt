@@ -6,6 +6,7 @@ mod place;
 mod save;
 
 pub use initial::build_initial;
+pub use initial::make_initial;
 pub use map::Built;
 pub use map::build_map;
-pub use place::Placed;
+pub use map::make_map;

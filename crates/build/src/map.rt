@@ -1,16 +1,26 @@
 // Every map but the initial one.
-use crate::ghosts::with_em_box;
-use crate::place::Placed;
+use crate::ghosts::put_em_box;
 use crate::place::place_free;
 use crate::place::place_locked;
 use crate::save::save_all;
 use adjust::adjust;
+use fixed::Fixed;
+use fixed::least;
 use hintmap::HintMap;
 use stems::HintMask;
+use stems::LINES;
+use stems::MAX_HINTS;
+use stems::STEM_NUMBERS;
 use stems::Stems;
+use stems::TAGS;
 use zones::HintState;
 ghost use mathlib.Core.Path.{_≡_};
+ghost use Prim.Native.Nat.{_≤_};
+ghost use lib.ListN.{length};
+ghost use Rattle.stems.specs.Edge.{maxHints};
+ghost use Rattle.stems.specs.Lists.{Whole};
 ghost use Rattle.build.specs.Build.{builtOf};
+ghost use Rattle.build.specs.Made.{Makable, MadeMap};
 
 // A map, and the stems after its build.
 pub struct Built {
@@ -18,23 +28,72 @@ pub struct Built {
     pub stems: Stems,
 }
 
-// Ports `build` where it is not the initial map's: active stems that are locked or captured, then
-// those that are left.
+// Ports `build` where it is not the initial map's, into lists: active stems that are locked or
+// captured, then those that are left, placed by the lines of the initial map. The heights of its
+// edges are saved in the stems. Gives the map's length.
+pub fn make_map(
+    lines: &mut [i32; LINES],
+    tags: &mut [u8; TAGS],
+    state: HintState,
+    mask: HintMask,
+    stems: &mut [i32; STEM_NUMBERS],
+    count: usize,
+    initial: &[i32; LINES],
+    size: usize,
+    base: Fixed,
+) -> usize
+    requires { ⌜ Makable (now lines) (now tags) (now stems) count size ⌝ }
+    ensures { λ r. ⌜ MadeMap state mask (now (stems .entry)) count (now (initial .entry)) size base r
+        (now (lines .exit)) (now (tags .exit)) (now (stems .exit)) ⌝ }
+{
+    let boxed = put_em_box(lines, tags, state.do_em_box_hints, state.scale);
+    let mut rest = mask.bytes;
+    let locked = place_locked(lines, tags, boxed, &mut rest, state, stems, count);
+    let scale = state.scale;
+    let len = place_free(
+        lines,
+        tags,
+        locked,
+        &rest,
+        scale,
+        stems,
+        count,
+        initial,
+        size,
+        base,
+    );
+    adjust(lines, tags, len);
+    save_all(stems, lines, tags, len);
+    len
+}
+
+// The same of stems and of an initial map by value.
 pub fn build_map(state: HintState, mask: HintMask, stems: Stems, initial: HintMap) -> Built
     ensures { λ r. ⌜ r ≡ builtOf state mask initial stems ⌝ }
 {
-    let none = HintMap::new(state.scale);
-    let boxed = with_em_box(none, state.do_em_box_hints, initial, true);
-    let start = Placed {
-        map: boxed,
-        rest: mask,
-    };
-    let locked = place_locked(start, state, stems, initial, true);
-    let all = place_free(locked, state, stems, initial);
-    let placed = all.map;
-    let map = adjust(placed).validate();
+    let mut numbers = [0i32; STEM_NUMBERS];
+    stems.list(&mut numbers);
+    let mut base = [0i32; LINES];
+    let mut base_tags = [0u8; TAGS];
+    initial.list(&mut base, &mut base_tags);
+    let mut lines = [0i32; LINES];
+    let mut tags = [0u8; TAGS];
+    let count = least(stems.count, MAX_HINTS);
+    let size = least(initial.len, MAX_HINTS);
+    let len = make_map(
+        &mut lines,
+        &mut tags,
+        state,
+        mask,
+        &mut numbers,
+        count,
+        &base,
+        size,
+        initial.scale,
+    );
+    let map = HintMap::from_lists(&lines, &tags, len, state.scale).validate();
     Built {
         map,
-        stems: save_all(stems, map),
+        stems: Stems::from_list(&numbers, stems.count),
     }
 }

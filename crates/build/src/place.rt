@@ -1,32 +1,26 @@
 // Placing the edges of stems.
-use fixed::least;
+use fixed::Fixed;
 use hintmap::Edges;
-use hintmap::HintMap;
+use hintmap::insert_edges;
+use stems::HINT_MASK_SIZE;
 use stems::Hint;
-use stems::HintMask;
-use stems::MAX_HINTS;
+use stems::LINES;
+use stems::STEM_NUMBERS;
 use stems::Side;
 use stems::StemHint;
-use stems::Stems;
+use stems::TAGS;
+use stems::clear_active;
+use stems::is_active;
+use stems::stem_at;
 use zones::Captured;
 use zones::HintState;
 ghost use mathlib.Core.Path.{_≡_};
-ghost use Prim.Native.Nat.{min};
-ghost use Rattle.build.specs.Place.{declaredIn, preparedOf, lockedTurns, freeTurns};
+ghost use Prim.Native.Nat.{_≤_};
 ghost use Rattle.stems.specs.Edge.{maxHints};
-
-// The map so far, and the stems that are still to be placed.
-pub struct Placed {
-    pub map: HintMap,
-    pub rest: HintMask,
-}
-
-// How many of the stems count.
-fn declared(count: usize) -> usize
-    ensures { λ r. ⌜ r ≡ min count maxHints ⌝ }
-{
-    least(count, MAX_HINTS)
-}
+ghost use Rattle.stems.specs.Lists.{stemsIn};
+ghost use Rattle.hintmap.specs.Lent.{Lent};
+ghost use Rattle.build.specs.Place.{preparedOf};
+ghost use Rattle.build.specs.Made.{Locked, Freed};
 
 // From `build`: a stem's edges, and whether they are locked or captured.
 fn prepared(state: HintState, stem: StemHint, index: u8) -> Captured
@@ -51,52 +45,67 @@ fn prepared(state: HintState, stem: StemHint, index: u8) -> Captured
     state.capture(bottom, top)
 }
 
-// From `build`: the first round over the stems. An active stem that is locked or captured is put
-// in, and handled even if it is dropped.
+// From `build`: the first round over the stems. An active stem that is locked or captured is put in,
+// and handled even if it is dropped: it is cleared in the mask. Gives the new length.
 pub(crate) fn place_locked(
-    p: Placed,
+    lines: &mut [i32; LINES],
+    tags: &mut [u8; TAGS],
+    start: usize,
+    rest: &mut [u8; HINT_MASK_SIZE],
     state: HintState,
-    stems: Stems,
-    initial: HintMap,
-    given: bool,
-) -> Placed
-    ensures { λ r. ⌜ r ≡ lockedTurns state initial given 0 (declaredIn stems) p ⌝ }
+    stems: &[i32; STEM_NUMBERS],
+    count: usize,
+) -> usize
+    requires { ⌜ Lent (now lines) (now tags) start × (count ≤ maxHints) ⌝ }
+    ensures { λ r. ⌜ Locked state (stemsIn (now (stems .entry)) count) (now (lines .entry)) (now (tags .entry)) start
+        (now (rest .entry)) r (now (lines .exit)) (now (tags .exit)) (now (rest .exit)) ⌝ }
 {
-    let mut map = p.map;
-    let mut rest = p.rest;
-    let count = declared(stems.count);
+    let mut len = start;
     for i in 0..count {
-        if !rest.get(i) {
+        if !is_active(rest, i) {
             continue;
         }
-        let stem = stems.list[i];
+        let stem = stem_at(stems, i);
         let edges = prepared(state, stem, i as u8);
         if !edges.captured {
             continue;
         }
         let bottom = edges.bottom;
         let top = edges.top;
-        map = map.insert(Edges::choose(stem.shape(), bottom, top), initial, given);
-        rest = rest.clear(i);
+        len = insert_edges(lines, tags, len, Edges::choose(stem.shape(), bottom, top));
+        clear_active(rest, i);
     }
-    Placed { map, rest }
+    len
 }
 
-// From `build`: the second round, over the stems that are left.
-pub(crate) fn place_free(p: Placed, state: HintState, stems: Stems, initial: HintMap) -> Placed
-    ensures { λ r. ⌜ r ≡ freeTurns state initial 0 (declaredIn stems) p ⌝ }
+// From `build`: the second round, over the stems that are left, which the initial map places again.
+// Gives the new length.
+pub(crate) fn place_free(
+    lines: &mut [i32; LINES],
+    tags: &mut [u8; TAGS],
+    start: usize,
+    rest: &[u8; HINT_MASK_SIZE],
+    scale: Fixed,
+    stems: &[i32; STEM_NUMBERS],
+    count: usize,
+    initial: &[i32; LINES],
+    size: usize,
+    base: Fixed,
+) -> usize
+    requires { ⌜ Lent (now lines) (now tags) start × ((count ≤ maxHints) × (size ≤ maxHints)) ⌝ }
+    ensures { λ r. ⌜ Freed scale (stemsIn (now (stems .entry)) count) (now (lines .entry)) (now (tags .entry)) start
+        (now (rest .entry)) (now (initial .entry)) size base r (now (lines .exit)) (now (tags .exit)) ⌝ }
 {
-    let mut map = p.map;
-    let rest = p.rest;
-    let count = declared(stems.count);
+    let mut len = start;
     for i in 0..count {
-        if !rest.get(i) {
+        if !is_active(rest, i) {
             continue;
         }
-        let stem = stems.list[i];
-        let bottom = Hint::setup(stem, i as u8, state.scale, Side::Bottom);
-        let top = Hint::setup(stem, i as u8, state.scale, Side::Top);
-        map = map.insert(Edges::choose(stem.shape(), bottom, top), initial, true);
+        let stem = stem_at(stems, i);
+        let bottom = Hint::setup(stem, i as u8, scale, Side::Bottom);
+        let top = Hint::setup(stem, i as u8, scale, Side::Top);
+        let edges = Edges::choose(stem.shape(), bottom, top);
+        len = insert_edges(lines, tags, len, edges.placed(initial, size, base, scale));
     }
-    Placed { map, rest }
+    len
 }

@@ -1,13 +1,11 @@
 -- What a walk over a map's lines has found, whatever the tags: where the heights that pass end, and
 -- the mapping by the edge there. Assumes nothing.
-use mathlib.Core.Path.{_≡_, refl, sym, ap, subst, _∙_}
+use mathlib.Core.Path.{_≡_, sym, ap, _∙_}
 use mathlib.Core.Bool.{Bool, true, false, cond}
 use mathlib.Core.List.{List}
 use Prim.Native.Nat.{ℕ, _+_, _-_, _≤_, _<_}
 use native.Mathlib.Omega.{arith}
-use lib.Dec.{ltb}
 use lib.IntN.{ℤ}
-use borrow.Author.Tests.{ltb-true, ltb-false}
 use lib.ListN.{length, drop, getD, length-drop}
 use lib.Seq.{getD-drop}
 use Rattle.fixed.specs.declared.Fixed.{Fixed}
@@ -22,16 +20,6 @@ use Rattle.hintmap.specs.Lent.{Rises, Reaches, Places}
 use Rattle.hintmap.proofs.Near.{leading-is}
 use Rattle.hintmap.proofs.Walk.{map-some}
 use Rattle.hintmap.proofs.Lent.{held-length, held-height}
-
--- what holds before a place and at it holds before the next
-pub before-next : {P : ℕ → Type 0} (i : ℕ) → ((j : ℕ) → j < i → P j) → P i → (j : ℕ) → j < i + 1 → P j
-before-next {P} i f p j l = by (ltb j i) refl
-  where
-    by : (t : Bool) → ltb j i ≡ t → P j
-    by true e = f j (ltb-true j i e)
-    by false e =
-        let q : i ≡ j = omega (arith, ltb-false j i e) in
-        subst P q p
 
 -- an edge after the first
 behind-first : (es : List Hint) (i : ℕ) → getD (drop 1 es) i noHint ≡ getD es (i + 1) noHint

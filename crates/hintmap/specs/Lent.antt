@@ -14,7 +14,7 @@ use Rattle.stems.specs.Lists.{heightIn, held, Whole}
 use Rattle.hintmap.specs.declared.map.HintMap.{HintMap}
 use Rattle.hintmap.specs.declared.insert.Edges.{Edges}
 use Rattle.hintmap.specs.declared.insert.Outcome.{Outcome}
-use Rattle.hintmap.specs.Map.{putAt, placeAmong, reach, mapOf}
+use Rattle.hintmap.specs.Map.{view, putAt, placeAmong, reach, mapOf}
 use Rattle.hintmap.specs.Insert.{firstEdge, placedBy, outcomeOf, insertIn}
 
 -- the map that the first n places hold, to be built; every other place counts as unused
@@ -31,6 +31,11 @@ pub record Lent (ls : List ℤ) (ts : List ℕ) (n : ℕ) : Type 0 where
   pub whole : Whole ls ts
   pub fits : n ≤ maxHints
   pub order : Rises ls n
+
+-- lines that hold a map's edges, with tags that may be gone
+pub record LinesOf (m : HintMap) (ls : List ℤ) (n : ℕ) : Type 0 where
+  pub tags : List ℕ
+  pub edges : view m ≡ held ls tags n
 
 -- ---- mapping a height goes by lines alone, whatever the tags
 abbrev pub Reaches : List ℤ → ℕ → Fixed → ℕ → Type 0

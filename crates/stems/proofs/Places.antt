@@ -1,15 +1,15 @@
 -- What lists of numbers hold: the edge or the stem at a place, and after one is written there, the
 -- same edges or stems but for that one. Assumes nothing.
-use mathlib.Core.Path.{_≡_, refl, sym, ap, _∙_}
+use mathlib.Core.Path.{_≡_, refl, sym, ap, subst, _∙_}
 use mathlib.Core.Bool.{Bool, true, false}
 use mathlib.Core.List.{List, [], _∷_}
 use Prim.Native.Nat.{ℕ, zero, suc, _+_, _≤_, _<_}
 use native.Mathlib.Omega.{arith}
-use lib.Dec.{eqb}
+use lib.Dec.{eqb, ltb}
 use lib.IntN.{ℤ, pos}
 use lib.ListN.{length, take, getD, set, length-set}
 use lib.Seq.{getD-set-same, getD-set-other, ext-getD, getD-take, length-take-le, set-getD}
-use borrow.Author.Tests.{eqb-true, eqb-false}
+use borrow.Author.Tests.{eqb-true, eqb-false, ltb-true, ltb-false}
 use Rattle.fixed.specs.declared.Fixed.{Fixed}
 use Rattle.fixed.specs.Fixed.{fromBits, ZERO, lessF}
 use Rattle.stems.specs.declared.edge.Hint.{Hint}
@@ -33,6 +33,16 @@ onLine e x =
       «ds_coord» = e .«ds_coord»;
       scale = e .scale;
     }
+
+-- what holds before a place and at it holds before the next
+pub before-next : {P : ℕ → Type 0} (i : ℕ) → ((j : ℕ) → j < i → P j) → P i → (j : ℕ) → j < i + 1 → P j
+before-next {P} i f p j l = by (ltb j i) refl
+  where
+    by : (t : Bool) → ltb j i ≡ t → P j
+    by true e = f j (ltb-true j i e)
+    by false e =
+        let q : i ≡ j = omega (arith, ltb-false j i e) in
+        subst P q p
 
 -- ---- the values of a function
 module _ {A : Type 0} where
@@ -330,7 +340,11 @@ module _ (l : List ℤ) (long : length l ≡ 480) (i : ℕ) (p : i < 96) (st : S
   abbrev mark-of : ℤ
   mark-of = useMark (st .«is_used») .bits
 
-  stem-here : stemIn (setStem l i st) i ≡ st
+  pub set-long : length (setStem l i st) ≡ 480
+  unfolding setStem
+  set-long = simp length-set long
+
+  pub stem-here : stemIn (setStem l i st) i ≡ st
   unfolding stemIn setStem
   stem-here =
       rw (
@@ -342,7 +356,7 @@ module _ (l : List ℤ) (long : length l ≡ 480) (i : ℕ) (p : i < 96) (st : S
         used-is (st .«is_used»),
       )
 
-  stem-there : (j : ℕ) → j < 96 → (j ≡ i → ⊥) → stemIn (setStem l i st) j ≡ stemIn l j
+  pub stem-there : (j : ℕ) → j < 96 → (j ≡ i → ⊥) → stemIn (setStem l i st) j ≡ stemIn l j
   unfolding stemIn setStem
   stem-there j q n =
       let o = five-other l i mark-of (st .min .bits) (st .max .bits) (st .«ds_min» .bits) (st .«ds_max» .bits) in
@@ -358,3 +372,14 @@ module _ (l : List ℤ) (long : length l ≡ 480) (i : ℕ) (p : i < 96) (st : S
   pub stem-put : (n : ℕ) → stemsIn (setStem l i st) n .list ≡ set (stemsIn l n .list) i st
   unfolding stemsIn
   stem-put n = changed (stemIn l) (stemIn (setStem l i st)) 96 i st st p stem-here stem-there
+
+-- the stem that zeros are
+abbrev pub zeroStem : StemHint
+zeroStem = stemBy (pos 0) (pos 0) (pos 0) (pos 0) (pos 0)
+
+-- two lists of 96 stems that agree at every place
+pub all-stems : (l : List ℤ) (n : ℕ) (xs : List StemHint) → length xs ≡ 96 →
+    ((j : ℕ) → j < 96 → getD xs j zeroStem ≡ stemIn l j) → xs ≡ stemsIn l n .list
+all-stems l n xs e f =
+    ext-getD zeroStem _ _ (e ∙ sym (stems-long l n))
+    (λ j m. f j (omega arith) ∙ sym (stem-in l n j zeroStem (omega arith)))

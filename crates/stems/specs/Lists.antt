@@ -135,6 +135,11 @@ stemIn ns i =
 unfoldable pub stemsIn : List ℤ → ℕ → Stems
 stemsIn ns n = record { list = tabulate (stemIn ns) maxHints; count = n }
 
+-- a list that holds a stem at each place
+pub record ListedStems (ss : Stems) (ns : List ℤ) : Type 0 where
+  pub long : length ns ≡ 480
+  pub stems : stemsIn ns (ss .count) ≡ ss
+
 abbrev pub useMark : Bool → Fixed
 useMark true = ONE
 useMark false = ZERO

@@ -25,3 +25,5 @@ pub use lists::scale_at;
 pub use lists::stem_at;
 pub use mask::HINT_MASK_SIZE;
 pub use mask::HintMask;
+pub use mask::clear_active;
+pub use mask::is_active;

@@ -7,14 +7,16 @@
 // 96 each of: 1.0 if the stem is used, and its four heights.
 use crate::edge::Hint;
 use crate::edge::Kind;
+use crate::edge::MAX_HINTS;
 use crate::edge::StemHint;
+use crate::edge::Stems;
 use fixed::Fixed;
 ghost use mathlib.Core.Path.{_≡_};
 ghost use Prim.Native.Nat.{_+_, _<_, _≤_};
-ghost use lib.ListN.{set};
+ghost use lib.ListN.{length, set};
 ghost use Rattle.stems.specs.Edge.{maxHints};
 ghost use Rattle.stems.specs.Lists.{kindIn, kindNumber, mark, tagOf, heightIn, deviceIn, scaleIn, hintIn, setLine};
-ghost use Rattle.stems.specs.Lists.{Put, Copied, stemIn, useMark, setStem};
+ghost use Rattle.stems.specs.Lists.{Put, Copied, stemIn, stemsIn, useMark, setStem, ListedStems};
 
 // How many numbers the lines of a map are, its tags, and stems.
 pub const LINES: usize = 288;
@@ -230,4 +232,29 @@ pub fn put_stem(stems: &mut [i32; STEM_NUMBERS], i: usize, stem: StemHint)
     put_number(stems, MAXIMA + i, stem.max);
     put_number(stems, DEVICE_MINIMA + i, stem.ds_min);
     put_number(stems, DEVICE_MAXIMA + i, stem.ds_max);
+}
+
+impl Stems {
+    // The stems as numbers, at every place of a list.
+    pub fn list(self, stems: &mut [i32; STEM_NUMBERS])
+        requires { ⌜ length (now stems) ≡ 480 ⌝ }
+        ensures { λ r. ⌜ ListedStems self (now (stems .exit)) ⌝ }
+    {
+        for i in 0..MAX_HINTS {
+            let stem = self.list[i];
+            put_stem(stems, i, stem);
+        }
+    }
+
+    // The stems at all places of a list, of which so many are declared.
+    pub fn from_list(stems: &[i32; STEM_NUMBERS], count: usize) -> Stems
+        ensures { λ r. ⌜ r ≡ stemsIn (now (stems .entry)) count ⌝ }
+    {
+        let none = stem_at(stems, 0);
+        let mut list = [none; MAX_HINTS];
+        for i in 1..MAX_HINTS {
+            list[i] = stem_at(stems, i);
+        }
+        Stems { list, count }
+    }
 }

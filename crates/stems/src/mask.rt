@@ -1,8 +1,10 @@
 // Which stems are active: a bit for each, the most significant bit of the first byte for stem 0.
 use crate::edge::LAST_HINT;
 ghost use mathlib.Core.Path.{_≡_};
-ghost use Prim.Native.Nat.{_-_, _%_, _^_};
-ghost use Rattle.stems.specs.Mask.{allActive, maskOf, isActive, cleared, sameMask};
+ghost use mathlib.Core.Bool.{true};
+ghost use Prim.Native.Nat.{_-_, _<_, _%_, _^_};
+ghost use Rattle.stems.specs.Edge.{maxHints};
+ghost use Rattle.stems.specs.Mask.{ofBytes, allActive, maskOf, isActive, cleared, sameMask};
 
 // A bit for each of `MAX_HINTS` stems.
 pub const HINT_MASK_SIZE: usize = 12;
@@ -16,6 +18,24 @@ fn msb_mask(bit: usize) -> u8
     ensures { λ r. ⌜ r ≡ 2 ^ (7 - bit % 8) ⌝ }
 {
     128u8 >> (bit % 8)
+}
+
+// Whether a stem is active in a mask's bytes.
+pub fn is_active(bytes: &[u8; HINT_MASK_SIZE], bit: usize) -> bool
+    requires { ⌜ bit < maxHints ⌝ }
+    ensures { λ r. ⌜ r ≡ isActive (ofBytes (now (bytes .entry))) bit ⌝ }
+{
+    let byte = bytes[bit / 8];
+    (byte >> (7 - bit % 8)) % 2 == 1
+}
+
+// An active stem is cleared in a mask's bytes.
+pub fn clear_active(bytes: &mut [u8; HINT_MASK_SIZE], bit: usize)
+    requires { ⌜ (bit < maxHints) × (isActive (ofBytes (now bytes)) bit ≡ true) ⌝ }
+    ensures { λ r. ⌜ ofBytes (now (bytes .exit)) ≡ cleared (ofBytes (now (bytes .entry))) bit ⌝ }
+{
+    let byte = bytes[bit / 8];
+    bytes[bit / 8] = byte - msb_mask(bit);
 }
 
 impl HintMask {
@@ -50,8 +70,8 @@ impl HintMask {
         if LAST_HINT < bit {
             return false;
         }
-        let byte = self.bytes[bit / 8];
-        (byte >> (7 - bit % 8)) % 2 == 1
+        let bytes = self.bytes;
+        is_active(&bytes, bit)
     }
 
     // Ports `HintMask::clear`.
@@ -61,10 +81,9 @@ impl HintMask {
         if !self.get(bit) {
             return self;
         }
-        let mut m = self;
-        let byte = m.bytes[bit / 8];
-        m.bytes[bit / 8] = byte - msb_mask(bit);
-        m
+        let mut bytes = self.bytes;
+        clear_active(&mut bytes, bit);
+        HintMask { bytes }
     }
 
     // All 96 bits are the same.

@@ -9,7 +9,8 @@ use borrow.Author.Tests.{not-true, not-false}
 use Rattle.fixed.specs.declared.Fixed.{Fixed}
 use Rattle.fixed.specs.Fixed.{atMostF}
 use Rattle.stems.specs.Lists.{heightIn}
-use Rattle.hintmap.proofs.Found.{before-next, reaches}
+use Rattle.stems.proofs.Places.{before-next}
+use Rattle.hintmap.proofs.Found.{reaches}
 use Rattle.hintmap.proofs.heights.reached.Statement.{statement}
 use Rattle.hintmap.proofs.heights.reached.Tie as tie
 

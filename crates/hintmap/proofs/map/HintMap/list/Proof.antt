@@ -9,8 +9,7 @@ use lib.ListN.{length, getD}
 use lib.Seq.{ext-getD, getD-set-same, getD-set-other}
 use Rattle.stems.specs.Edge.{noHint}
 use Rattle.stems.specs.Lists.{edgesIn, Whole}
-use Rattle.stems.proofs.Places.{edges-long, put-is, put-whole}
-use Rattle.hintmap.proofs.Found.{before-next}
+use Rattle.stems.proofs.Places.{before-next, edges-long, put-is, put-whole}
 use Rattle.hintmap.proofs.Near.{held-long}
 use Rattle.hintmap.proofs.map.HintMap.list.Statement.{statement}
 use Rattle.hintmap.proofs.map.HintMap.list.Tie as tie
