@@ -1,3 +1,4 @@
 pub mod Adjust
 pub mod Pass
 pub mod Second
+pub mod Adjusted

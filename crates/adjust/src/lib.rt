@@ -1,16 +1,20 @@
 // Adjusting a map: its hints are moved to whole pixels (`adjust` in hint.rs; 01, "The map",
 // Adjust).
 use fixed::Fixed;
-use hintmap::HintMap;
 use stems::Hint;
+use stems::LINES;
 use stems::MAX_HINTS;
+use stems::TAGS;
+use stems::edge_at;
+use stems::put_line;
 ghost use mathlib.Core.Path.{_≡_};
 ghost use Prim.Native.Nat.{_-_, _<_, _≤_};
 ghost use Rattle.stems.specs.Edge.{maxHints, isPair};
 ghost use Rattle.adjust.specs.Adjust.{toNext, movesOf, besideBy, roomUp, roomDown, choiceOf, noteOf, movedHint};
 ghost use Rattle.adjust.specs.Adjust.{settleOf, rescaledHint};
 ghost use Rattle.adjust.specs.Pass.{nextPlace, upperBy, lowerBy};
-ghost use Rattle.adjust.specs.Second.{secondPass, adjustOf};
+ghost use Rattle.adjust.specs.Adjusted.{Retried, Adjusted};
+ghost use Rattle.hintmap.specs.Lent.{Lent};
 
 // The smallest move up and the smallest move down. A move down is not above 0.
 pub struct Moves {
@@ -41,13 +45,6 @@ pub struct Aligned {
     pub low: Hint,
     pub high: Hint,
     pub note: Note,
-}
-
-// The notes in the order in which they were made: a hint's upper edge, and its missing move.
-pub struct Notes {
-    pub at: [usize; MAX_HINTS],
-    pub by: [Fixed; MAX_HINTS],
-    pub count: usize,
 }
 
 // From `adjust`: the move up from a fraction to the next whole pixel.
@@ -248,76 +245,85 @@ fn lower(edge: Hint, j: usize) -> usize
     j
 }
 
-// From `adjust`: the second pass, newest note first, lifts hints for which the moves above them
-// have made room. Every note is of an edge of the map. Scales stay.
-fn second_pass(map: HintMap, notes: Notes) -> HintMap
-    requires { ⌜ (map .len ≤ maxHints) × (notes .count ≤ maxHints) ⌝ }
-    ensures { λ r. ⌜ r ≡ secondPass (notes .count) notes map ⌝ }
+// A place as the notes have it.
+fn wide(place: u8) -> usize
+    ensures { λ r. ⌜ r ≡ place ⌝ }
 {
-    let len = map.len;
-    let mut after = map;
-    let mut k = notes.count;
+    place as usize
+}
+
+// From `adjust`: the second pass, newest note first, lifts hints for which the moves above them have
+// made room. A note is the place of a hint's upper edge, and its missing move. Every note is of an
+// edge of the map. Scales stay.
+fn second_pass(
+    lines: &mut [i32; LINES],
+    tags: &[u8; TAGS],
+    len: usize,
+    at: &[u8; MAX_HINTS],
+    by: &[i32; MAX_HINTS],
+    count: usize,
+)
+    requires { ⌜ Lent (now lines) (now tags) len × (count ≤ maxHints) ⌝ }
+    ensures { λ r. ⌜ Retried (now (lines .entry)) (now (tags .entry)) len (now (at .entry)) (now (by .entry)) count
+        (now (lines .exit)) ⌝ }
+{
+    let mut k = count;
     while 0 < k {
         k -= 1;
-        let j = notes.at[k];
-        let by = notes.by[k];
+        let j = wide(at[k]);
+        let bits = by[k];
+        let missing = Fixed { bits };
         if len <= j {
             continue;
         }
-        let high = after.edges[j];
+        let high = edge_at(lines, tags, j);
         let n = next(j, len);
-        let above = after.edges[n];
-        if !room_up(beside(j + 1 < len, above), high.ds_coord, by) {
+        let above = edge_at(lines, tags, n);
+        if !room_up(beside(j + 1 < len, above), high.ds_coord, missing) {
             continue;
         }
         let i = lower(high, j);
-        let low = after.edges[i];
-        after.edges[i] = moved(low, by);
-        after.edges[j] = moved(high, by);
+        let low = edge_at(lines, tags, i);
+        put_line(lines, i, moved(low, missing));
+        put_line(lines, j, moved(high, missing));
     }
-    after
 }
 
-// Ports `adjust`. The first pass goes upward over the hints and does not look ahead: what it leaves
-// short is noted for the second.
-pub fn adjust(map: HintMap) -> HintMap
-    requires { ⌜ map .len ≤ maxHints ⌝ }
-    ensures { λ r. ⌜ r ≡ adjustOf map ⌝ }
+// Ports `adjust`, in the lists of a map. The first pass goes upward over the hints and does not look
+// ahead: what it leaves short is noted for the second.
+pub fn adjust(lines: &mut [i32; LINES], tags: &[u8; TAGS], len: usize)
+    requires { ⌜ Lent (now lines) (now tags) len ⌝ }
+    ensures { λ r. ⌜ Adjusted (now (lines .entry)) (now (tags .entry)) len (now (lines .exit)) ⌝ }
 {
-    let zero = Fixed::ZERO;
-    let mut notes = Notes {
-        at: [0; MAX_HINTS],
-        by: [zero; MAX_HINTS],
-        count: 0,
-    };
-    let len = map.len;
-    let mut after = map;
+    let mut at = [0u8; MAX_HINTS];
+    let mut by = [0i32; MAX_HINTS];
+    let mut count: usize = 0;
     let mut i: usize = 0;
     while i < len {
-        let low = after.edges[i];
+        let low = edge_at(lines, tags, i);
         let j = upper(low, i, len);
-        let high = after.edges[j];
+        let high = edge_at(lines, tags, j);
         let b = previous(i);
-        let below = after.edges[b];
+        let below = edge_at(lines, tags, b);
         let n = next(j, len);
-        let above = after.edges[n];
+        let above = edge_at(lines, tags, n);
         let aligned = settle(beside(0 < i, below), low, high, beside(j + 1 < len, above));
         let bottom = aligned.low;
         let top = aligned.high;
         let note = aligned.note;
-        after.edges[b] = rescaled(below, bottom);
-        after.edges[i] = rescaled(bottom, top);
-        after.edges[j] = top;
+        put_line(lines, b, rescaled(below, bottom));
+        put_line(lines, i, rescaled(bottom, top));
+        put_line(lines, j, top);
         i = j + 1;
         match note {
             Note::Settled => {}
-            Note::Missing(by) => {
-                let k = notes.count;
-                notes.at[k] = j;
-                notes.by[k] = by;
-                notes.count = k + 1;
+            Note::Missing(missing) => {
+                let bits = missing.bits;
+                at[count] = j as u8;
+                by[count] = bits;
+                count += 1;
             }
         }
     }
-    second_pass(after, notes)
+    second_pass(lines, tags, len, &at, &by, count);
 }
