@@ -74,6 +74,7 @@ write {m} {k} {ls} {ls′} {ts} {n} {s} h i e r l q =
 
 -- ---- notes as numbers
 module _ (at : List ℕ) (by : List ℤ) (c k : ℕ) where
+  -- a note's move is the number that stands for it, and its place is the number itself
   pub move-is : getD (notesIn at by c .by) k ZERO ≡ fromBits (getD by k (pos 0))
   unfolding notesIn
   move-is = List·getD-map fromBits by k (pos 0)
@@ -82,6 +83,7 @@ module _ (at : List ℕ) (by : List ℤ) (c k : ℕ) where
   unfolding notesIn
   place-is = refl
 
+-- a number put among moves is a move put there
 map-set : (l : List ℤ) (i : ℕ) (z : ℤ) → map fromBits (set l i z) ≡ set (map fromBits l) i (fromBits z)
 map-set [] i z = refl
 map-set (x ∷ l) zero z = refl

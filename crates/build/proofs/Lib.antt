@@ -1,5 +1,8 @@
 pub mod Steps
 pub mod Rounds
+pub mod Locking
+pub mod Turns
+pub mod Making
 pub mod Saved
 pub mod Sound
 pub mod Once

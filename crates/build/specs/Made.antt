@@ -35,9 +35,9 @@ Uncovered ls n r = (ts : List ℕ) (s : Fixed) → r ≡ uncovered (mapIn ls ts 
 
 -- the baseline
 pub record Baselined (ls : List ℤ) (ts : List ℕ) (n : ℕ) (s : Fixed) (n′ : ℕ) (ls′ : List ℤ) (ts′ : List ℕ) : Type 0
-    where
-  pub lent : Lent ls′ ts′ n′
-  pub map : mapIn ls′ ts′ n′ s ≡ baselined (mapIn ls ts n s)
+  where
+    pub lent : Lent ls′ ts′ n′
+    pub map : mapIn ls′ ts′ n′ s ≡ baselined (mapIn ls ts n s)
 
 -- the first round: what is locked or captured stays where it is, so whatever initial map is given
 pub record Locked (st : HintState) (ss : Stems) (ls : List ℤ) (ts : List ℕ) (n : ℕ) (rest : List ℕ) (n′ : ℕ)
@@ -64,10 +64,9 @@ pub record MadeInitial (st : HintState) (ss : Stems) (n : ℕ) (ls : List ℤ) (
   pub map : validMap (mapIn ls ts n (st .scale)) ≡ initialOf st ss
 
 -- lists in which a map can be made
-pub record Makable (ls : List ℤ) (ts : List ℕ) (ns : List ℤ) (count size : ℕ) : Type 0 where
+pub record Makable (ls : List ℤ) (ts : List ℕ) (ns : List ℤ) (size : ℕ) : Type 0 where
   pub whole : Whole ls ts
   pub long : length ns ≡ 480
-  pub declared : count ≤ maxHints
   pub initial : size ≤ maxHints
 
 -- every other map, and the stems after it

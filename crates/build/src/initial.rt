@@ -13,8 +13,6 @@ use stems::Stems;
 use stems::TAGS;
 use zones::HintState;
 ghost use mathlib.Core.Path.{_≡_};
-ghost use Prim.Native.Nat.{_≤_};
-ghost use Rattle.stems.specs.Edge.{maxHints};
 ghost use Rattle.stems.specs.Lists.{Whole, stemsIn};
 ghost use Rattle.build.specs.Build.{initialOf};
 ghost use Rattle.build.specs.Made.{MadeInitial};
@@ -28,12 +26,13 @@ pub fn make_initial(
     stems: &[i32; STEM_NUMBERS],
     count: usize,
 ) -> usize
-    requires { ⌜ Whole (now lines) (now tags) × (count ≤ maxHints) ⌝ }
+    requires { ⌜ Whole (now lines) (now tags) ⌝ }
     ensures { λ r. ⌜ MadeInitial state (stemsIn (now (stems .entry)) count) r (now (lines .exit)) (now (tags .exit)) ⌝ }
 {
     let boxed = put_em_box(lines, tags, state.do_em_box_hints, state.scale);
     let mut rest = [255u8; HINT_MASK_SIZE];
-    let placed = place_locked(lines, tags, boxed, &mut rest, state, stems, count);
+    let declared = least(count, MAX_HINTS);
+    let placed = place_locked(lines, tags, boxed, &mut rest, state, stems, declared);
     let len = put_baseline(lines, tags, placed, state.scale);
     adjust(lines, tags, len);
     len
@@ -47,7 +46,6 @@ pub fn build_initial(state: HintState, stems: Stems) -> HintMap
     stems.list(&mut numbers);
     let mut lines = [0i32; LINES];
     let mut tags = [0u8; TAGS];
-    let count = least(stems.count, MAX_HINTS);
-    let len = make_initial(&mut lines, &mut tags, state, &numbers, count);
+    let len = make_initial(&mut lines, &mut tags, state, &numbers, stems.count);
     HintMap::from_lists(&lines, &tags, len, state.scale).validate()
 }

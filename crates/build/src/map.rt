@@ -15,10 +15,6 @@ use stems::Stems;
 use stems::TAGS;
 use zones::HintState;
 ghost use mathlib.Core.Path.{_≡_};
-ghost use Prim.Native.Nat.{_≤_};
-ghost use lib.ListN.{length};
-ghost use Rattle.stems.specs.Edge.{maxHints};
-ghost use Rattle.stems.specs.Lists.{Whole};
 ghost use Rattle.build.specs.Build.{builtOf};
 ghost use Rattle.build.specs.Made.{Makable, MadeMap};
 
@@ -42,13 +38,14 @@ pub fn make_map(
     size: usize,
     base: Fixed,
 ) -> usize
-    requires { ⌜ Makable (now lines) (now tags) (now stems) count size ⌝ }
+    requires { ⌜ Makable (now lines) (now tags) (now stems) size ⌝ }
     ensures { λ r. ⌜ MadeMap state mask (now (stems .entry)) count (now (initial .entry)) size base r
         (now (lines .exit)) (now (tags .exit)) (now (stems .exit)) ⌝ }
 {
     let boxed = put_em_box(lines, tags, state.do_em_box_hints, state.scale);
     let mut rest = mask.bytes;
-    let locked = place_locked(lines, tags, boxed, &mut rest, state, stems, count);
+    let declared = least(count, MAX_HINTS);
+    let locked = place_locked(lines, tags, boxed, &mut rest, state, stems, declared);
     let scale = state.scale;
     let len = place_free(
         lines,
@@ -57,7 +54,7 @@ pub fn make_map(
         &rest,
         scale,
         stems,
-        count,
+        declared,
         initial,
         size,
         base,
@@ -78,7 +75,6 @@ pub fn build_map(state: HintState, mask: HintMask, stems: Stems, initial: HintMa
     initial.list(&mut base, &mut base_tags);
     let mut lines = [0i32; LINES];
     let mut tags = [0u8; TAGS];
-    let count = least(stems.count, MAX_HINTS);
     let size = least(initial.len, MAX_HINTS);
     let len = make_map(
         &mut lines,
@@ -86,7 +82,7 @@ pub fn build_map(state: HintState, mask: HintMask, stems: Stems, initial: HintMa
         state,
         mask,
         &mut numbers,
-        count,
+        stems.count,
         &base,
         size,
         initial.scale,

@@ -3,7 +3,7 @@
 use mathlib.Core.Path.{_≡_, refl, sym, ap, _∙_}
 use mathlib.Core.Bool.{Bool, true, false}
 use mathlib.Core.List.{List, [], _∷_, _++_, append-assoc}
-use Prim.Native.Nat.{ℕ, suc, _+_, _-_, _≤_, _<_}
+use Prim.Native.Nat.{ℕ, suc, _+_, _-_, _≤_, _<_, min}
 use native.Mathlib.Numerals.{add-one}
 use native.Mathlib.Omega.{arith}
 use lib.IntN.{ℤ}
@@ -13,15 +13,16 @@ use lib.Seq.{take-at, drop-at, drop-append-add, length-take-le, getD-take, take-
 use lib.Seq.{set-at, take-suc}
 use lib.Signed.{_≤ℤ_}
 use Rattle.fixed.specs.declared.Fixed.{Fixed}
+use Rattle.fixed.proofs.Counts.{take-least}
 use Rattle.stems.specs.declared.edge.Hint.{Hint}
 use Rattle.stems.specs.Edge.{noHint}
-use Rattle.stems.specs.Lists.{heightIn, hintIn, edgesIn, held, Whole, setLine}
+use Rattle.stems.specs.Lists.{heightIn, hintIn, edgesIn, held, Whole, Listed, setLine}
 use Rattle.stems.proofs.Places.{onLine, edges-long, edge-in, height-of, line-is}
 use Rattle.hintmap.specs.declared.map.HintMap.{HintMap}
 use Rattle.hintmap.specs.declared.insert.Edges.{Edges}
 use Rattle.hintmap.specs.Map.{view}
 use Rattle.hintmap.specs.Insert.{edgesOf, putEdges}
-use Rattle.hintmap.specs.Lent.{mapIn, Rises, Entered}
+use Rattle.hintmap.specs.Lent.{mapIn, Rises, Lent, LinesOf, Entered}
 use Rattle.hintmap.specs.WholeStems.{height, Ascends}
 
 module _ (ls : List ℤ) (ts : List ℕ) (n : ℕ) (h : n ≤ 96) where
@@ -38,6 +39,10 @@ module _ (ls : List ℤ) (ts : List ℕ) (n : ℕ) (h : n ≤ 96) where
   map-long s =
       rw (length-append (held ls ts n) (replicate (96 - n) noHint), held-length, length-replicate (96 - n) noHint)
       (omega arith)
+
+  pub map-len : (s : Fixed) → mapIn ls ts n s .len ≡ n
+  unfolding mapIn
+  map-len s = refl
 
   -- the edge at a place that counts
   pub held-at : (i : ℕ) → i < n → getD (held ls ts n) i noHint ≡ hintIn ls ts i
@@ -85,6 +90,10 @@ module _ (ls : List ℤ) (ts : List ℕ) (n : ℕ) (h : n ≤ 96) where
         List·getD-append (held ls ts n) (replicate (96 - n) noHint) noHint i (omega (arith, held-length)) ∙
         held-at i l
 
+    pub read-height : height (getD (mapIn ls ts n s .edges) i noHint) ≡ heightIn ls i
+    unfolding hintIn
+    read-height = rw read-is
+
     -- and one written of which the device height and the scale alone are new
     pub line-map : (e : Hint) → Whole ls ts → e ≡ onLine e (getD (mapIn ls ts n s .edges) i noHint) →
         mapIn (setLine ls i e) ts n s .edges ≡ set (mapIn ls ts n s .edges) i e
@@ -113,3 +122,17 @@ grown ls ts i s p =
       edge-in ls ts i p,
     )
     (sym (append-assoc (held ls ts i) (hintIn ls ts i ∷ []) (replicate (96 - suc i) noHint)))
+
+-- lists that hold no edge
+pub none-lent : (ls : List ℤ) (ts : List ℕ) → Whole ls ts → Lent ls ts 0
+none-lent ls ts w = record { whole = w; fits = omega arith; order = λ i j p q. absurd (omega arith) }
+
+-- the lines of a map's edges, as many as there is room for
+pub listed-lines : (m : HintMap) (ls : List ℤ) (ts : List ℕ) (k : ℕ) → length (m .edges) ≡ 96 → Listed (m .edges) ls ts →
+    k ≡ min (m .len) 96 → LinesOf m ls k
+listed-lines m ls ts k long l e =
+    record {
+      tags = ts;
+      edges =
+          sym (ap (take k) (l .edges) ∙ ap (λ (n : ℕ). take n (m .edges)) e ∙ take-least (m .len) 96 (m .edges) long);
+    }

@@ -56,3 +56,10 @@ module _ (m : HintMap) (e : Edges) (initial other : HintMap) (given : Bool) wher
   pub insert-placed : insertIn m e initial given ≡ insertIn m (placedFor m e initial given) other false
   unfolding insertIn
   insert-placed = ap (λ (o : Outcome). insertBy o m) outcome-placed
+
+-- edges of which the first is locked stay where they are, whatever initial map is given
+pub insert-locked : (m : HintMap) (e : Edges) (initial other : HintMap) (given : Bool) → firstEdge e .locked ≡ true →
+    insertIn m e other false ≡ insertIn m e initial given
+insert-locked m e initial other given l =
+    let by : Bool → Edges = λ b. placedBy (not b && given) (view initial) (initial .scale) (m .scale) e in
+    ap (λ (p : Edges). insertIn m p other false) (sym (ap by l)) ∙ sym (insert-placed m e initial other given)

@@ -1,119 +1,117 @@
+-- `place_locked` meets its contract. The loop's invariant: the lists are lent as at the start, and
+-- whatever initial map is given, the turns that are left, taken from stem `i` on, give what all give.
+-- The measure is what is left of the count. Assumes nothing.
+use borrow.Author.Needs.{needs}
+use borrow.Author.Tests.{not-true, not-false}
+use mathlib.Core.Path.{_≡_, sym, _∙_}
+use mathlib.Core.Bool.{Bool, true}
+use mathlib.Core.List.{List}
+use Prim.Native.Nat.{ℕ, _+_, _-_, _<_}
+use native.Mathlib.Omega.{arith}
+use lib.IntN.{ℤ}
+use Rattle.stems.specs.Mask.{ofBytes, isActive}
+use Rattle.stems.specs.Lists.{stemIn, stemsIn}
+use Rattle.hintmap.specs.declared.map.HintMap.{HintMap}
+use Rattle.hintmap.specs.Lent.{Lent}
+use Rattle.build.specs.Place.{lockedTurn, lockedTurns}
+use Rattle.build.specs.Made.{placedIn}
+use Rattle.build.proofs.Rounds.{Left, locked-round}
+use Rattle.build.proofs.Turns.{round-starts, round-goes, round-ends, locked-skips, locked-leaves, locked-puts}
 use Rattle.build.proofs.place.place_locked.Statement.{statement}
 use Rattle.build.proofs.place.place_locked.Tie as tie
-use Rattle.build.proofs.place.place_locked.Reads as reads
-use Rattle.build.proofs.place.place_locked.Lts as lts
-use Rattle.build.proofs.place.prepared.Reads as prepared-reads
-use Rattle.hintmap.proofs.insert.Edges.choose.Reads as choose-reads
-use Rattle.hintmap.proofs.insert_edges.Reads as insert-edges-reads
-use Rattle.stems.proofs.edge.StemHint.shape.Reads as shape-reads
-use Rattle.stems.proofs.stem_at.Reads as stem-at-reads
-use Rattle.stems.proofs.clear_active.Reads as clear-active-reads
-use Rattle.stems.proofs.is_active.Reads as is-active-reads
 
 abbrev Inv-loop : tie.InvT-loop
-Inv-loop lines₀ tags₀ start rest₀ state stems count len₀ i₀ lines tags rest len i = ?
+Inv-loop lines₀ tags₀ start rest₀ state stems count len₀ i₀ lines tags rest len i =
+    Lent lines tags len × ((initial : HintMap) (given : Bool) →
+    Left (lockedTurns state initial given) (stemsIn stems count) count
+    (placedIn lines₀ tags₀ start (state .scale) rest₀) (placedIn lines tags len (state .scale) rest) i)
 
 abbrev μ-loop : tie.MeasureT-loop
-μ-loop lines₀ tags₀ start rest₀ state stems count len₀ i₀ lines tags rest len i = ?
+μ-loop lines₀ tags₀ start rest₀ state stems count len₀ i₀ lines tags rest len i = count - i
 
--- src/place.rt:64:5
+-- ---- the turn of stem i
+module _ (c : tie.In-loop Inv-loop μ-loop) where
+  abbrev at : tie.At-loop Inv-loop μ-loop
+  at = c .before
+
+  abbrev begin : tie.Start Inv-loop μ-loop
+  begin = at .before
+
+  -- whatever it leaves, the turns after it are left
+  again : (ls : List ℤ) (ts rest : List ℕ) (n : ℕ) → Lent ls ts n →
+      ((initial : HintMap) (given : Bool) →
+      lockedTurn (begin .args .state) initial given (placedIn (at .loop .lines) (at .loop .tags) (at .loop .len)
+      (begin .args .state .scale) (at .loop .rest)) (at .loop .i) (stemIn (begin .args .stems .now) (at .loop .i)) ≡
+      placedIn ls ts n (begin .args .state .scale) rest) →
+      Inv-loop (begin .args .lines .now) (begin .args .tags .now) (begin .args .start) (begin .args .rest .now)
+      (begin .args .state) (begin .args .stems .now) (begin .args .count) (begin .args .start) 0 ls ts rest n
+      (at .loop .i + 1)
+  again ls ts rest n l f = (
+    l,
+    λ initial given. round-goes (locked-round (begin .args .state) initial given) _ _ (begin .pre .1) _ _ _ _
+        (search needs) (at .loop .inv .1 initial given) (f initial given),
+  )
+
+-- a stem that is not skipped has its place, and is active
+active : (c : tie.Else1 Inv-loop μ-loop) →
+    let at = c .before .before .before .before in
+    (at .loop .i < 96) × (isActive (ofBytes (at .loop .rest)) (at .loop .i) ≡ true)
+active c = (omega arith, sym (c .before .is-active .ensures) ∙ not-false _ (c .if1 .left))
+
 loop-holds : tie.Need-loop-holds Inv-loop μ-loop
-loop-holds c = ?
+loop-holds c =
+    (c .pre .0, λ initial given. round-starts (locked-round (c .args .state) initial given) _ _ (c .pre .1) _)
 
--- src/place.rt:65:13
-is-active-requires : tie.Need-is-active-requires Inv-loop μ-loop
-is-active-requires c κs = ?
-
--- src/place.rt:66:13
-add-i : tie.Need-add-i Inv-loop μ-loop
-add-i c = ?
-
--- src/place.rt:64:5
-loop-less : tie.Need-loop-less Inv-loop μ-loop
-loop-less c = ?
-
--- src/place.rt:64:5
 loop-again : tie.Need-loop-again Inv-loop μ-loop
-loop-again c = ?
+loop-again c =
+    let g = c .before in
+    again (g .before .before) _ _ _ _ (g .before .before .before .loop .inv .0)
+    (λ initial given. locked-skips _ initial _ _ _ _ given
+    (sym (g .is-active .ensures) ∙ not-true _ (c .if1 .taken)))
 
--- src/place.rt:68:13
-stem-at-requires : tie.Need-stem-at-requires Inv-loop μ-loop
-stem-at-requires c κs = ?
-
--- src/place.rt:69:43
-cast-prepared : tie.Need-cast-prepared Inv-loop μ-loop
-cast-prepared c = ?
-
--- src/place.rt:69:13
-prepared-requires : tie.Need-prepared-requires Inv-loop μ-loop
-prepared-requires c κs = ?
-
--- src/place.rt:71:13
-add-i-2 : tie.Need-add-i-2 Inv-loop μ-loop
-add-i-2 c = ?
-
--- src/place.rt:64:5
-loop-less-2 : tie.Need-loop-less-2 Inv-loop μ-loop
-loop-less-2 c = ?
-
--- src/place.rt:64:5
 loop-again-2 : tie.Need-loop-again-2 Inv-loop μ-loop
-loop-again-2 c = ?
+loop-again-2 c =
+    let r = c .before .before in
+    let e = r .before .before in
+    let g = e .before .before .before in
+    again g _ _ _ _ (g .before .loop .inv .0)
+    (λ initial given. rw (← (r .before .stem-at .ensures)) (locked-leaves _ initial _ _ _ _ given (active e .1)
+    (r .prepared .ensures) (not-true _ (c .if2 .taken))))
 
--- src/place.rt:75:60
-shape-requires : tie.Need-shape-requires Inv-loop μ-loop
-shape-requires c κs = ?
-
--- src/place.rt:75:46
-choose-requires : tie.Need-choose-requires Inv-loop μ-loop
-choose-requires c κs = ?
-
--- src/place.rt:75:9
-insert-edges-requires : tie.Need-insert-edges-requires Inv-loop μ-loop
-insert-edges-requires c κs = ?
-
--- src/place.rt:76:9
 clear-active-requires : tie.Need-clear-active-requires Inv-loop μ-loop
-clear-active-requires c κs = ?
+clear-active-requires c κs =
+    active (c .before .before .before .before .before .before .before .before .before .before .before .before)
 
--- src/place.rt:64:9
 add-i-3 : tie.Need-add-i-3 Inv-loop μ-loop
-add-i-3 c = ?
+add-i-3 c =
+    let p = c .before .before .before .before .before .before .before .before .before .before .before in
+    omega (arith, active (p .before .before))
 
--- src/place.rt:64:5
-loop-less-3 : tie.Need-loop-less-3 Inv-loop μ-loop
-loop-less-3 c = ?
-
--- src/place.rt:64:5
 loop-again-3 : tie.Need-loop-again-3 Inv-loop μ-loop
-loop-again-3 c = ?
+loop-again-3 c =
+    let o = c .before .before in
+    let h = o .before in
+    let f = h .before .before .before .before .before .before in
+    let r = f .before .before in
+    let e = r .before .before in
+    again (e .before .before .before) _ _ _ _ (o .insert-edges .ensures .lent)
+    (λ initial given. rw (← (r .before .stem-at .ensures)) (locked-puts _ initial _ _ _ _ given (active e .1)
+    (h .before .shape .ensures) (r .prepared .ensures) (not-false _ (f .if2 .left)) (h .choose .ensures)
+    (o .insert-edges .ensures .map _ initial) (c .clear-active .ensures)))
 
--- src/place.rt:50:1
 returns : tie.Need-returns Inv-loop μ-loop
-returns c = ?
+returns c =
+    let at = c .before in
+    record {
+      lent = at .loop .inv .0;
+      placed = λ initial given. round-ends (locked-round (at .before .args .state) initial given) _ _
+          (at .before .pre .1) _ _ (at .loop .i) (search needs) (at .loop .inv .1 initial given);
+    }
 
 pub place-locked-spec : {M : Type 1} → statement M
 place-locked-spec =
     tie.close
-    (tie.spec
-    Inv-loop
-    μ-loop
-    loop-holds
-    is-active-requires
-    add-i
-    loop-less
-    loop-again
-    stem-at-requires
-    cast-prepared
-    prepared-requires
-    add-i-2
-    loop-less-2
-    loop-again-2
-    shape-requires
-    choose-requires
-    insert-edges-requires
-    clear-active-requires
-    add-i-3
-    loop-less-3
-    loop-again-3
-    returns)
+    (tie.spec Inv-loop μ-loop loop-holds (λ c κs. search needs) (λ c. search needs) (λ c. search needs) loop-again
+    (λ c κs. search needs) (λ c. search needs) (λ c κs. search needs) (λ c. search needs) (λ c. search needs)
+    loop-again-2 (λ c κs. search needs) (λ c κs. search needs) (λ c κs. search needs) clear-active-requires
+    add-i-3 (λ c. search needs) loop-again-3 returns)
