@@ -1,13 +1,13 @@
--- Laws of the record words: how many a flush and a close write, what stands where more are written
--- behind some, and what is lent of an output and comes back. Assumes nothing.
+-- Laws of the record words: what stands where more are written behind some, what a flush and a
+-- close write, and how many words a stroke has. Assumes nothing.
 use mathlib.Core.Path.{_≡_, refl, sym, _∙_}
 use mathlib.Core.Bool.{Bool, true, false, cond}
-use mathlib.Core.List.{List, _++_, _∷_, [], append-assoc, append-nil}
+use mathlib.Core.List.{List, _++_, _∷_, [], append-assoc}
 use Prim.Native.Nat.{ℕ, _-_, _≤_, _<_}
 use native.Mathlib.Omega.{arith}
 use lib.IntN.{ℤ, pos}
-use lib.ListN.{length, take, drop, set, length-append, length-drop, drop-of-length-le}
-use lib.Seq.{take-all, drop-cons, drop-drop, set-append-seam, take-append-seam, drop-append-seam}
+use lib.ListN.{length, take, drop, set, length-append}
+use lib.Seq.{drop-cons, drop-drop, set-append-seam, take-append-seam, drop-append-seam}
 use borrow.Rule.Slice.PartMut.{putMid}
 use Rattle.pen.specs.declared.strokes.Point.{Point}
 use Rattle.pen.specs.declared.strokes.Start.{Start}
@@ -18,18 +18,7 @@ use Rattle.pen.specs.declared.strokes.Pen.{Pen}
 use Rattle.pen.specs.Records.{written}
 use Rattle.pen.specs.Strokes.{samePoint, pointWords, closeBy, waitingWords, closingWords, flushWords, moveOf}
 use Rattle.pen.specs.Strokes.{lineOf, curveOf, finishOf}
-
--- ---- what is lent of a list
--- the part of a slice that is lent from i on is the rest of it
-pub lent : {A : Type 0} (s : List A) (i : ℕ) → take (length s - i) (drop i s) ≡ drop i s
-lent s i = take-all (length s - i) (drop i s) (simp length-drop (omega arith))
-
--- what was lent comes home
-pub back : {A : Type 0} (a : ℕ) (xs ys : List A) → putMid a (length xs - a) xs ys ≡ take a xs ++ ys
-back a xs ys =
-    let h : length (drop a xs) ≤ length xs - a = simp length-drop (omega arith) in
-    let e : drop (length xs - a) (drop a xs) ≡ [] = drop-of-length-le (drop a xs) h in
-    rw (e, append-nil)
+use Rattle.pen.proofs.Lent.{lent, back}
 
 -- ---- words that are written
 -- some words, and more behind them
