@@ -1,7 +1,22 @@
 -- `draw` meets its contract, by its four arms and their calls. Assumes nothing.
+use mathlib.Core.Path.{_≡_}
+use mathlib.Core.List.{List}
+use lib.IntN.{ℤ}
 use borrow.Author.Needs.{needs}
+use Rattle.fixed.specs.declared.Fixed.{Fixed}
+use Rattle.hintmap.specs.declared.map.HintMap.{HintMap}
+use Rattle.pen.specs.declared.strokes.Path.{Path}
+use Rattle.pen.specs.declared.strokes.Pen.{Pen}
+use Rattle.pen.specs.declared.drawn.Drawn.{Drawn}
+use Rattle.pen.specs.Drawn.{Drew}
+use Rattle.hints.specs.Path.{strokeBy}
 use Rattle.hints.proofs.path.draw.Statement.{statement}
 use Rattle.hints.proofs.path.draw.Tie as tie
+
+-- a call draws what an equal one asks
+drawn-as : (m : HintMap) (s : Fixed) (from : Pen) {path asked : Path} {out left : List ℤ} {said : Drawn} →
+    path ≡ asked → Drew (strokeBy m s from asked) from out said left → Drew (strokeBy m s from path) from out said left
+drawn-as m s from e h = rw e h
 
 enum-known-path : tie.Need-enum-known-path
 enum-known-path c = search needs
@@ -48,7 +63,10 @@ same-length c = search needs
 returns : tie.Need-returns
 returns c =
     let p = c .before .before .before in
-    rw (p .before .before .path .given .1) (rw (p .place .ensures) at (c .before .move-to .ensures))
+    let w = p .before .before in
+    let a = w .before .before .args in
+    drawn-as (a .map) (a .scale) (a .pen) (w .path .given .1)
+    (rw (p .place .ensures) at (c .before .move-to .ensures))
 
 same-length-2 : tie.Need-same-length-2
 same-length-2 c = search needs
@@ -56,7 +74,10 @@ same-length-2 c = search needs
 returns-2 : tie.Need-returns-2
 returns-2 c =
     let p = c .before .before .before in
-    rw (p .before .before .path2 .given .1) (rw (p .place2 .ensures) at (c .before .line-to .ensures))
+    let w = p .before .before in
+    let a = w .before .before .args in
+    drawn-as (a .map) (a .scale) (a .pen) (w .path2 .given .1)
+    (rw (p .place2 .ensures) at (c .before .line-to .ensures))
 
 same-length-3 : tie.Need-same-length-3
 same-length-3 c = search needs
@@ -65,14 +86,19 @@ returns-3 : tie.Need-returns-3
 returns-3 c =
     let p = c .before .before .before in
     let q = p .before .before in
-    rw (q .before .before .path3 .given .1)
+    let w = q .before .before in
+    let a = w .before .before .args in
+    drawn-as (a .map) (a .scale) (a .pen) (w .path3 .given .1)
     (rw (p .place5 .ensures, p .before .place4 .ensures, q .place3 .ensures) at (c .before .curve-to .ensures))
 
 same-length-4 : tie.Need-same-length-4
 same-length-4 c = search needs
 
 returns-4 : tie.Need-returns-4
-returns-4 c = rw (c .before .before .before .enum-told .given .1) (c .before .finish .ensures)
+returns-4 c =
+    let w = c .before .before .before in
+    let a = w .before .before .args in
+    drawn-as (a .map) (a .scale) (a .pen) (w .enum-told .given .1) (c .before .finish .ensures)
 
 pub draw-spec : {M : Type 1} → statement M
 draw-spec =
