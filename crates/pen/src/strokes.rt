@@ -79,7 +79,7 @@ impl Pen {
         }
     }
 
-    // The words that a flush writes.
+    // How many words a flush writes.
     fn flush_len(self) -> usize
         ensures { λ r. ⌜ r ≡ length (flushWords self) ⌝ }
     {
@@ -102,7 +102,7 @@ impl Pen {
         write_point(out, LINE, device);
     }
 
-    // The words that a close writes: none without a start, and no line that leads to the start.
+    // How many words a close writes: none without a start, and no line that leads to the start.
     fn close_len(self) -> usize
         ensures { λ r. ⌜ r ≡ length (closingWords self) ⌝ }
     {
@@ -119,7 +119,7 @@ impl Pen {
         self.flush_len() + BARE_RECORD
     }
 
-    // Ports `maybe_close_subpath`.
+    // Ports `maybe_close_subpath`: nothing, a close alone, or a line and a close.
     fn close(self, out: &mut [i32])
         requires { ⌜ length (closingWords self) ≤ length (now out) ⌝ }
         ensures { λ r. ⌜ now (out .exit) ≡ written (closingWords self) (now (out .entry)) ⌝ }
