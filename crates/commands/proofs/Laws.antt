@@ -4,8 +4,7 @@ use mathlib.Core.Bool.{Bool, true, false, cond, _||_, true≢false}
 use mathlib.Core.List.{List, [], _∷_, _++_}
 use Prim.Native.Nat.{ℕ, zero, suc, _+_, _-_, _≤_, _<_}
 use native.Mathlib.Omega.{arith}
-use lib.ListN.{length, take, drop, length-drop}
-use lib.Seq.{take-all}
+use lib.ListN.{length}
 use lib.Dec.{ltb, leb}
 use borrow.Author.Tests.{lt-ltb, le-ltb, ltb-true, ltb-false}
 use Rattle.words.specs.declared.answer.Answer.{Answer}
@@ -174,7 +173,3 @@ module _ (b : ℕ) (w : ℕ → ℕ) (n bytes : ℕ) (P : ℕ → Type 0) (last 
           let p = faultless b w n bytes i l e in
           one i l (p .0) (again (omega arith) (p .1 .1))
       by false t again = last i (ltb-false i n t)
-
--- the part of a slice that is lent from i on is the rest of it
-pub lent : {A : Type 0} (s : List A) (i : ℕ) → take (length s - i) (drop i s) ≡ drop i s
-lent s i = take-all (length s - i) (drop i s) (simp length-drop (omega arith))

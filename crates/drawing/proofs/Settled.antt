@@ -6,15 +6,16 @@ use native.Mathlib.Omega.{arith}
 use lib.IntN.{ℤ}
 use Rattle.zones.specs.declared.state.HintState.{HintState}
 use Rattle.pen.specs.declared.strokes.Pen.{Pen}
-use Rattle.pen.specs.declared.strokes.Stroke.{Stroke}
+use Rattle.pen.specs.Strokes.{Stroke}
 use Rattle.pen.specs.Records.{fits}
 use Rattle.hints.specs.declared.hints.Hints.{Hints}
 use Rattle.pen.specs.declared.strokes.Path.{Path}
-use Rattle.hints.specs.declared.path.CallAnswer.{CallAnswer}
-use Rattle.hints.specs.declared.path.CallAnswer.the-variants.{Wrote, NoRoom}
-use Rattle.hints.specs.declared.path.Drawn.{Drawn}
+use Rattle.pen.specs.declared.drawn.CallAnswer.{CallAnswer}
+use Rattle.pen.specs.declared.drawn.CallAnswer.the-variants.{Wrote, NoRoom}
+use Rattle.pen.specs.declared.drawn.Drawn.{Drawn}
 use Rattle.hints.specs.Hints.{readyOf}
-use Rattle.hints.specs.Path.{strokeBy, callNumber, callWords, Drew, hasPoint}
+use Rattle.pen.specs.Drawn.{callNumber, callWords, Drew}
+use Rattle.hints.specs.Path.{strokeBy, hasPoint}
 use Rattle.hints.proofs.Steps.{ready-idle}
 use Rattle.hints.specs.declared.drawing.Drawing.{Drawing}
 use Rattle.drawing.specs.declared.calls.After.{After}

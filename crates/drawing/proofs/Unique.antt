@@ -16,8 +16,8 @@ use Rattle.zones.specs.declared.state.HintParams.{HintParams}
 use Rattle.zones.specs.declared.state.HintState.{HintState}
 use Rattle.hints.specs.declared.drawing.Drawing.{Drawing}
 use Rattle.drawing.specs.declared.calls.After.{After}
-use Rattle.hints.specs.declared.path.CallAnswer.{CallAnswer}
-use Rattle.hints.proofs.Steps.{same-answer}
+use Rattle.pen.specs.declared.drawn.CallAnswer.{CallAnswer}
+use Rattle.pen.proofs.Drew.{same-answer}
 use Rattle.drawing.specs.declared.opening.Opening.{Opening}
 use Rattle.drawing.specs.declared.opening.Opening.the-variants.{Ok, BadScale, BadBlues}
 use Rattle.drawing.specs.declared.opening.Opened.{Opened}

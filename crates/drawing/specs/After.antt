@@ -9,9 +9,9 @@ use Rattle.pen.specs.declared.strokes.Pen.{Pen}
 use Rattle.pen.specs.Records.{written, fits}
 use Rattle.hints.specs.declared.hints.Hints.{Hints}
 use Rattle.hints.specs.declared.drawing.Drawing.{Drawing}
-use Rattle.hints.specs.declared.path.CallAnswer.{CallAnswer}
-use Rattle.hints.specs.declared.path.CallAnswer.the-variants.{Wrote, NoRoom}
-use Rattle.hints.specs.Path.{callNumber, callWords, callPlace}
+use Rattle.pen.specs.declared.drawn.CallAnswer.{CallAnswer}
+use Rattle.pen.specs.declared.drawn.CallAnswer.the-variants.{Wrote, NoRoom}
+use Rattle.pen.specs.Drawn.{callNumber, callWords, callPlace}
 use Rattle.hints.specs.Calls.{Call, wordsFor, roomBy}
 use Rattle.drawing.specs.declared.calls.After.{After}
 

@@ -1,11 +1,11 @@
 // The calls on a drawing. One that writes records does all of its work or none.
 use fixed::Fixed;
 use hintmap::HintMap;
-use hints::CallAnswer;
 use hints::Drawing;
-use hints::Drawn;
 use hints::Hints;
 use hints::draw;
+use pen::CallAnswer;
+use pen::Drawn;
 use pen::Path;
 use pen::Pen;
 use pen::Point;

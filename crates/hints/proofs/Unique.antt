@@ -1,6 +1,6 @@
 -- Any two outcomes that meet the contract of a public function are equal, over that contract as the
 -- toolchain reads it: the result and, of `draw`, every word of what was lent. Assumes nothing.
-use mathlib.Core.Path.{_≡_, sym, ap, _∙_}
+use mathlib.Core.Path.{_≡_, sym, _∙_}
 use borrow.Fn.Kinds.{endedOf}
 use borrow.Fn.World.{ArgsD, ResD}
 use contract.Lifetimes.{Lfts}
@@ -9,11 +9,8 @@ use denote.Ref.{now}
 use Rattle.fixed.specs.declared.Fixed.{Fixed}
 use Rattle.stems.specs.declared.mask.HintMask.{HintMask}
 use Rattle.zones.specs.declared.state.HintState.{HintState}
-use Rattle.pen.specs.declared.strokes.Pen.{Pen}
+use Rattle.pen.proofs.Drew.{drew-one}
 use Rattle.hints.specs.declared.hints.Hints.{Hints}
-use Rattle.hints.specs.declared.path.CallAnswer.{CallAnswer}
-use Rattle.hints.specs.declared.path.Drawn.{Drawn}
-use Rattle.hints.proofs.Steps.{same-answer}
 use Rattle.hints.proofs.hints.Hints.new.Reads as new-reads
 use Rattle.hints.proofs.hints.Hints.with_stem.Reads as with-stem-reads
 use Rattle.hints.proofs.hints.Hints.with_mask.Reads as with-mask-reads
@@ -45,15 +42,8 @@ module _ (κs : Lfts 0) (h r r′ : Hints) where
       ready-reads.Post κs (h, (st, tt)) r′ (h, (st, tt)) → r ≡ r′
   ready-unique st p q = p ∙ sym q
 
-drawn : {d e : Drawn} → d .pen ≡ e .pen → d .answer ≡ e .answer → d ≡ e
-drawn {d} {e} p a =
-    ap (λ (x : Pen). record { pen = x; answer = d .answer }) p ∙
-    ap (λ (x : CallAnswer). record { pen = e .pen; answer = x }) a
-
 module _ (κs : Lfts 1) (a : ArgsD draw.signature κs) (r r′ : ResD draw.signature κs)
     (x x′ : AtExit (endedOf 1 draw-kinds.ps draw-kinds.r) κs) where
   pub draw-unique : draw-reads.Post κs a r x → draw-reads.Post κs a r′ x′ →
       (r ≡ r′) × (now (x .1 .1 .1 .1 .0) ≡ now (x′ .1 .1 .1 .1 .0))
-  draw-unique p q =
-      let a = same-answer (r .answer) (r′ .answer) (p .number ∙ sym (q .number)) (p .words ∙ sym (q .words)) in
-      (drawn (p .pen ∙ sym (q .pen)) a, p .memory ∙ sym (q .memory))
+  draw-unique p q = drew-one p q

@@ -1,15 +1,13 @@
 -- A drawing and the calls on it (01, "Path records"): a pure step, which room commits or not.
 use mathlib.Core.Bool.{Bool, true, false}
-use mathlib.Core.List.{List}
+use mathlib.Core.List.{List, []}
 use lib.IntN.{ℤ}
 use Rattle.fixed.specs.declared.Fixed.{Fixed}
 use Rattle.stems.specs.declared.mask.HintMask.{HintMask}
 use Rattle.zones.specs.declared.state.HintState.{HintState}
 use Rattle.pen.specs.declared.strokes.Path.{Path}
 use Rattle.pen.specs.declared.strokes.Pen.{Pen}
-use Rattle.pen.specs.declared.strokes.Stroke.{Stroke}
-use Rattle.pen.specs.Records.{noRecords, wordsOf}
-use Rattle.pen.specs.Strokes.{newPen}
+use Rattle.pen.specs.Strokes.{Stroke, newPen}
 use Rattle.hints.specs.declared.hints.Hints.{Hints}
 use Rattle.hints.specs.declared.drawing.Drawing.{Drawing}
 use Rattle.hints.specs.Hints.{newHints, withStem, withMask, countered, readyOf}
@@ -44,7 +42,7 @@ hintsOf st h close = h
 hintsOf st h (draw p) = readyFor (hasPoint p) st h
 
 abbrev pub still : Pen → Stroke
-still pen = record { pen = pen; records = noRecords }
+still pen = record { pen = pen; words = [] }
 
 -- the stroke of a call; one that is not drawn leaves the pen as it is
 abbrev pub strokeOf : HintState → Hints → Pen → Call → Stroke
@@ -60,7 +58,7 @@ abbrev pub nextOf : HintState → Drawing → Call → Drawing
 nextOf st d c = record { hints = hintsOf st (d .hints) c; pen = strokeOf st (d .hints) (d .pen) c .pen }
 
 abbrev pub wordsFor : HintState → Drawing → Call → List ℤ
-wordsFor st d c = wordsOf (strokeOf st (d .hints) (d .pen) c .records)
+wordsFor st d c = strokeOf st (d .hints) (d .pen) c .words
 
 -- ---- room
 -- with room for its words a call is done, and else the drawing is as it was

@@ -6,6 +6,4 @@ mod path;
 
 pub use drawing::Drawing;
 pub use hints::Hints;
-pub use path::CallAnswer;
-pub use path::Drawn;
 pub use path::draw;

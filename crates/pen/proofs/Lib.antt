@@ -1,2 +1,4 @@
+pub mod Lent
 pub mod Words
+pub mod Drew
 pub mod Unique

@@ -1,73 +1,65 @@
--- Laws of the record words: how many there are, what pushing makes of them, and what is written.
--- Assumes nothing.
-use mathlib.Core.Path.{_≡_, sym, ap, _∙_}
+-- Laws of the record words: what stands where more are written behind some, what a flush and a
+-- close write, and how many words a stroke has. Assumes nothing.
+use mathlib.Core.Path.{_≡_, refl, sym, _∙_}
 use mathlib.Core.Bool.{Bool, true, false, cond}
-use mathlib.Core.List.{List, _++_, _∷_, [], append-assoc, append-nil}
-use Prim.Native.Nat.{ℕ, suc, _+_, _-_, _≤_, _<_}
-use native.Mathlib.Numerals.{add-one}
+use mathlib.Core.List.{List, _++_, _∷_, [], append-assoc}
+use Prim.Native.Nat.{ℕ, _-_, _≤_, _<_}
 use native.Mathlib.Omega.{arith}
 use lib.IntN.{ℤ, pos}
-use lib.ListN.{length, take, drop, set, getD, replicate, length-append}
-use lib.Seq.{take-suc, drop-cons, set-at, length-take-le, set-append-seam, take-append-seam}
-use Rattle.pen.specs.declared.records.Records.{Records}
+use lib.ListN.{length, take, drop, set, length-append}
+use lib.Seq.{drop-cons, drop-drop, set-append-seam, take-append-seam, drop-append-seam}
+use borrow.Rule.Slice.PartMut.{putMid}
 use Rattle.pen.specs.declared.strokes.Point.{Point}
 use Rattle.pen.specs.declared.strokes.Start.{Start}
 use Rattle.pen.specs.declared.strokes.Start.the-variants.{At, Absent as NoStart}
 use Rattle.pen.specs.declared.strokes.Waiting.{Waiting}
 use Rattle.pen.specs.declared.strokes.Waiting.the-variants.{Line, Absent as NoLine}
 use Rattle.pen.specs.declared.strokes.Pen.{Pen}
-use Rattle.pen.specs.Records.{emitted, pushed, wordsOf}
+use Rattle.pen.specs.Records.{written}
 use Rattle.pen.specs.Strokes.{samePoint, pointWords, closeBy, waitingWords, closingWords, flushWords, moveOf}
 use Rattle.pen.specs.Strokes.{lineOf, curveOf, finishOf}
+use Rattle.pen.proofs.Lent.{lent, back}
 
--- one store more at the start of what was lent
-pub one-more : (ws out : List ℤ) (i : ℕ) → i < length ws → i < length out →
-    set (take i ws ++ drop i out) i (getD ws i (pos 0)) ≡ take (i + 1) ws ++ drop (i + 1) out
-one-more ws out i h k =
-    let l : length (take i ws) ≡ i = length-take-le i ws (omega arith) in
-    rw (drop-cons out i (pos 0) k, add-one)
-    (set-at (take i ws) (getD out i (pos 0)) (drop (suc i) out) (getD ws i (pos 0)) i l ∙
-    sym (rw (take-suc ws i (pos 0) h) (append-assoc (take i ws) (getD ws i (pos 0) ∷ []) (drop (suc i) out))))
+-- ---- words that are written
+-- some words, and more behind them
+pub written-both : (ws vs out : List ℤ) → written (ws ++ vs) out ≡ ws ++ written vs (drop (length ws) out)
+unfolding written
+written-both ws vs out = rw (append-assoc, length-append, drop-drop)
 
--- one word more behind emitted ones
-pushed-emitted : (ws : List ℤ) (w : ℤ) → length ws < 10 → pushed (emitted ws) w ≡ emitted (ws ++ w ∷ [])
-unfolding emitted
-pushed-emitted ws w h =
-    let l : length (ws ++ w ∷ []) ≡ length ws + 1 = length-append ws (w ∷ []) in
-    let n : 10 - length ws ≡ suc (10 - (length ws + 1)) = omega arith in
-    rw (l, n, set-append-seam, append-assoc)
+module _ (ws out : List ℤ) where
+  -- more words in what is lent behind some
+  written-behind : (vs : List ℤ) →
+      take (length ws) (written ws out) ++ written vs (drop (length ws) (written ws out)) ≡ written (ws ++ vs) out
+  unfolding written
+  written-behind vs = rw (take-append-seam, drop-append-seam) (sym (written-both ws vs out))
 
--- some words more, first to last
-abbrev pub pushedAll : Records → List ℤ → Records
-pushedAll r [] = r
-pushedAll r (v ∷ vs) = pushedAll (pushed r v) vs
+  -- one word more
+  written-one : (w : ℤ) → length ws < length out → set (written ws out) (length ws) w ≡ written (ws ++ w ∷ []) out
+  unfolding written
+  written-one w h = rw (written-both ws (w ∷ []) out, drop-cons out (length ws) (pos 0) h) (set-append-seam ws _ _ w)
 
--- pushed words stand behind the others
-pub all-pushed : (ws vs : List ℤ) → length ws + length vs ≤ 10 → pushedAll (emitted ws) vs ≡ emitted (ws ++ vs)
-all-pushed ws [] h = ap emitted (sym (append-nil ws))
-all-pushed ws (v ∷ vs) h =
-    let l : length (ws ++ v ∷ []) ≡ length ws + 1 = length-append ws (v ∷ []) in
-    ap (λ (q : Records). pushedAll q vs) (pushed-emitted ws v (omega arith)) ∙
-    all-pushed (ws ++ v ∷ []) vs (omega arith) ∙
-    ap emitted (append-assoc ws (v ∷ []) vs)
+-- words that are lent what stands behind others
+pub behind : (ws vs out : List ℤ) {k : ℕ} {mid left : List ℤ} → k ≡ length ws → mid ≡ written ws out →
+    left ≡ written vs (take (length mid - k) (drop k mid)) → putMid k (length mid - k) mid left ≡ written (ws ++ vs) out
+behind ws vs out {k} {mid} {left} e m w =
+    let b : take k mid ++ left ≡ written (ws ++ vs) out = rw (w, lent mid k, m, e) (written-behind ws out vs) in
+    back k mid left ∙ b
 
--- what is pushed onto records is pushed onto their equals
-pub onto : {r o q : Records} (vs : List ℤ) → r ≡ q → o ≡ pushedAll r vs → o ≡ pushedAll q vs
-onto vs e f = f ∙ ap (λ (q : Records). pushedAll q vs) e
+-- and one word there
+pub one-behind : (ws out : List ℤ) (w : ℤ) {k : ℕ} {mid : List ℤ} → k ≡ length ws → mid ≡ written ws out →
+    k < length out → set mid k w ≡ written (ws ++ w ∷ []) out
+one-behind ws out w e m h = rw (m, e) (written-one ws out w (omega arith))
 
--- equal records have equal counts
-pub same-count : {r o : Records} → r ≡ o → r .count ≡ o .count
-same-count e = ap (λ (q : Records). q .count) e
+-- no words
+pub written-none : (ws out : List ℤ) → length ws ≡ 0 → written ws out ≡ out
+unfolding written
+written-none [] out e = refl
+written-none (w ∷ ws) out e = absurd (omega arith)
 
--- the count of emitted words is their number
-pub count-is : {r : Records} (ws : List ℤ) → r ≡ emitted ws → r .count ≡ length ws
-unfolding emitted
-count-is ws e = same-count e
-
--- the words that count are the emitted ones
-pub words-emitted : (ws : List ℤ) → wordsOf (emitted ws) ≡ ws
-unfolding emitted
-words-emitted ws = take-append-seam ws (replicate (10 - length ws) (pos 0))
+-- ---- the words of a flush and of a close
+waiting-short : (w : Waiting) → length (waitingWords w) ≤ 3
+waiting-short NoLine = omega arith
+waiting-short (Line at device) = omega arith
 
 close-short : (s : Start) (w : Waiting) → length (closeBy s w) ≤ 4
 close-short NoStart w = omega arith
@@ -78,45 +70,66 @@ close-short (At from) (Line at device) = pick (samePoint at from)
     pick true = omega arith
     pick false = omega arith
 
-waiting-short : (w : Waiting) → length (waitingWords w) ≤ 3
-waiting-short NoLine = omega arith
-waiting-short (Line at device) = omega arith
+close-lone : (s : Start) (w : Waiting) → length (closeBy s w) ≡ 1 → closeBy s w ≡ pos 4 ∷ []
+close-lone NoStart w e = absurd (omega arith)
+close-lone (At from) NoLine e = refl
+close-lone (At from) (Line at device) e = pick (samePoint at from) e
+  where
+    pick : (b : Bool) → length (cond b (pos 4 ∷ []) (pos 2 ∷ pointWords device ++ pos 4 ∷ [])) ≡ 1 →
+        cond b (pos 4 ∷ []) (pos 2 ∷ pointWords device ++ pos 4 ∷ []) ≡ pos 4 ∷ []
+    pick true e = refl
+    pick false e = absurd (omega arith)
+
+close-line : (s : Start) (w : Waiting) → 1 < length (closeBy s w) →
+    (length (waitingWords w) ≡ 3) × (closeBy s w ≡ waitingWords w ++ pos 4 ∷ [])
+close-line NoStart w h = absurd (omega arith)
+close-line (At from) NoLine h = absurd (omega arith)
+close-line (At from) (Line at device) h = pick (samePoint at from) h
+  where
+    pick : (b : Bool) → 1 < length (cond b (pos 4 ∷ []) (pos 2 ∷ pointWords device ++ pos 4 ∷ [])) →
+        (length (waitingWords (Line at device)) ≡ 3) × (cond b (pos 4 ∷ []) (pos 2 ∷ pointWords device ++ pos 4 ∷ []) ≡
+        waitingWords (Line at device) ++ pos 4 ∷ [])
+    pick true h = absurd (omega arith)
+    pick false h = (refl, refl)
 
 module _ (pen : Pen) where
-  -- closing writes at most 4 words
-  pub closing-short : length (closingWords pen) ≤ 4
-  unfolding closingWords
-  closing-short = close-short (pen .start) (pen .waiting)
-
-  -- flushing writes at most 3 words
+  -- a flush writes at most 3 words
   pub flushing-short : length (flushWords pen) ≤ 3
   unfolding flushWords
   flushing-short = waiting-short (pen .waiting)
 
-  -- records of closing count at most 4 words
-  pub few-closing : {r : Records} → r ≡ emitted (closingWords pen) → r .count ≤ 4
-  few-closing e = rw (count-is (closingWords pen) e) closing-short
+  -- a close writes at most 4 words
+  pub closing-short : length (closingWords pen) ≤ 4
+  unfolding closingWords
+  closing-short = close-short (pen .start) (pen .waiting)
 
-  -- records of flushing count at most 3 words
-  pub few-flushing : {r : Records} → r ≡ emitted (flushWords pen) → r .count ≤ 3
-  few-flushing e = rw (count-is (flushWords pen) e) flushing-short
+  -- one word is a close alone
+  pub closing-lone : length (closingWords pen) ≡ 1 → closingWords pen ≡ pos 4 ∷ []
+  unfolding closingWords
+  closing-lone = close-lone (pen .start) (pen .waiting)
 
-  -- the records of a move count at most 10 words
-  pub move-short : (at device : Point) → moveOf pen at device .records .count ≤ 10
-  unfolding moveOf emitted
-  move-short at device = omega (arith, closing-short, length-append (closingWords pen) (pos 1 ∷ pointWords device))
+  -- more are a line and a close
+  pub closing-line : 1 < length (closingWords pen) →
+      (length (flushWords pen) ≡ 3) × (closingWords pen ≡ flushWords pen ++ pos 4 ∷ [])
+  unfolding closingWords flushWords
+  closing-line = close-line (pen .start) (pen .waiting)
 
-  -- the records of a line count at most 10 words
-  pub line-short : (at device : Point) → lineOf pen at device .records .count ≤ 10
-  unfolding lineOf emitted
+  -- the words of a move are at most 10
+  pub move-short : (at device : Point) → length (moveOf pen at device .words) ≤ 10
+  unfolding moveOf
+  move-short at device = simp length-append (omega (arith, closing-short))
+
+  -- those of a line
+  pub line-short : (at device : Point) → length (lineOf pen at device .words) ≤ 10
+  unfolding lineOf
   line-short at device = omega (arith, flushing-short)
 
-  -- the records of a curve count at most 10 words
-  pub curve-short : (first second end : Point) → curveOf pen first second end .records .count ≤ 10
-  unfolding curveOf emitted
+  -- of a curve
+  pub curve-short : (first second end : Point) → length (curveOf pen first second end .words) ≤ 10
+  unfolding curveOf
   curve-short first second end = simp length-append (omega (arith, flushing-short))
 
-  -- the records of a finish count at most 10 words
-  pub finish-short : finishOf pen .records .count ≤ 10
-  unfolding finishOf emitted
-  finish-short = omega (arith, closing-short, length-append (closingWords pen) (pos 5 ∷ []))
+  -- and of a finish
+  pub finish-short : length (finishOf pen .words) ≤ 10
+  unfolding finishOf
+  finish-short = simp length-append (omega (arith, closing-short))

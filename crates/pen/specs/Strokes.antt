@@ -10,8 +10,6 @@ use Rattle.pen.specs.declared.strokes.Start.the-variants.{At, Absent as 
 use Rattle.pen.specs.declared.strokes.Waiting.{Waiting}
 use Rattle.pen.specs.declared.strokes.Waiting.the-variants.{Line, Absent as NoLine}
 use Rattle.pen.specs.declared.strokes.Pen.{Pen}
-use Rattle.pen.specs.declared.strokes.Stroke.{Stroke}
-use Rattle.pen.specs.Records.{emitted}
 
 abbrev pub newPen : Pen
 newPen = record { start = NoStart; waiting = NoLine }
@@ -41,8 +39,13 @@ waitingWords (Line at device) = pos 2 ∷ pointWords device
 unfoldable pub flushWords : Pen → List ℤ
 flushWords pen = waitingWords (pen .waiting)
 
+-- what a stroke makes of the pen, and the words that it writes
+pub record Stroke : Type 0 where
+  pub pen : Pen
+  pub words : List ℤ
+
 abbrev pub stroke : Start → Waiting → List ℤ → Stroke
-stroke s w ws = record { pen = record { start = s; waiting = w }; records = emitted ws }
+stroke s w ws = record { pen = record { start = s; waiting = w }; words = ws }
 
 -- a move closes first
 unfoldable pub moveOf : Pen → Point → Point → Stroke

@@ -1,10 +1,13 @@
 // The pen of a drawing, and the record words that its strokes write (01, "Path records").
+mod drawn;
 mod records;
 mod strokes;
 
-pub use records::MAX_WORDS;
-pub use records::Records;
-pub use records::put;
+pub use drawn::CallAnswer;
+pub use drawn::Drawn;
+pub use records::BARE_RECORD;
+pub use records::CURVE_RECORD;
+pub use records::POINT_RECORD;
 pub use strokes::CLOSE;
 pub use strokes::CURVE;
 pub use strokes::FINISH;
@@ -14,5 +17,4 @@ pub use strokes::Path;
 pub use strokes::Pen;
 pub use strokes::Point;
 pub use strokes::Start;
-pub use strokes::Stroke;
 pub use strokes::Waiting;

@@ -1,61 +1,49 @@
-// The record words of one call, and writing them.
+// Records with points, written to the start of what is lent.
+use crate::strokes::CURVE;
 use crate::strokes::Point;
-use fixed::least;
 ghost use mathlib.Core.Path.{_≡_};
-ghost use Prim.Native.Nat.{_+_, _<_};
-ghost use Rattle.pen.specs.Records.{maxWords, noRecords, pushed, pushedPoint, Put};
+ghost use mathlib.Core.List.{_∷_, _++_};
+ghost use Prim.Native.Nat.{_≤_};
+ghost use lib.IntN.{pos};
+ghost use lib.ListN.{length};
+ghost use Rattle.pen.specs.Records.{written};
+ghost use Rattle.pen.specs.Strokes.{pointWords};
 
-// The most words that a call writes: a line that waited, three, and a curve, seven.
-pub const MAX_WORDS: usize = 10;
+// The words of a record: its kind, and two for each point.
+pub const BARE_RECORD: usize = 1;
 
-// The words of one call, and how many of them count.
-pub struct Records {
-    pub words: [i32; MAX_WORDS],
-    pub count: usize,
-}
+pub const POINT_RECORD: usize = 3;
 
-impl Records {
-    pub(crate) fn none() -> Records
-        ensures { λ r. ⌜ r ≡ noRecords ⌝ }
-    {
-        Records {
-            words: [0i32; MAX_WORDS],
-            count: 0,
-        }
-    }
+pub const CURVE_RECORD: usize = 7;
 
-    // One word more.
-    pub(crate) fn push(self, word: i32) -> Records
-        requires { ⌜ self .count < maxWords ⌝ }
-        ensures { λ r. ⌜ r ≡ pushed self word ⌝ }
-    {
-        let mut records = self;
-        let at = records.count;
-        records.words[at] = word;
-        records.count = at + 1;
-        records
-    }
-
-    // A point's two words more.
-    pub(crate) fn point(self, p: Point) -> Records
-        requires { ⌜ self .count + 1 < maxWords ⌝ }
-        ensures { λ r. ⌜ r ≡ pushedPoint self p ⌝ }
-    {
-        self.push(p.x.bits).push(p.y.bits)
-    }
-}
-
-// Writes the records to the start of what is lent, if they fit; else nothing.
-pub fn put(out: &mut [i32], records: Records) -> bool
-    ensures { λ r. ⌜ Put (now (out .entry)) records r (now (out .exit)) ⌝ }
+// A move or a line.
+pub(crate) fn write_point(out: &mut [i32], kind: i32, p: Point)
+    requires { ⌜ 3 ≤ length (now out) ⌝ }
+    ensures { λ r. ⌜ now (out .exit) ≡ written (kind ∷ pointWords p) (now (out .entry)) ⌝ }
 {
-    let n = least(records.count, MAX_WORDS);
-    if out.len() < n {
-        return false;
-    }
-    for i in 0..n {
-        let word = records.words[i];
-        out[i] = word;
-    }
-    true
+    let x = p.x.bits;
+    let y = p.y.bits;
+    out[0] = kind;
+    out[1] = x;
+    out[2] = y;
+}
+
+pub(crate) fn write_curve(out: &mut [i32], first: Point, second: Point, end: Point)
+    requires { ⌜ 7 ≤ length (now out) ⌝ }
+    ensures { λ r. ⌜ now (out .exit) ≡
+        written (pos 3 ∷ pointWords first ++ pointWords second ++ pointWords end) (now (out .entry)) ⌝ }
+{
+    let x1 = first.x.bits;
+    let y1 = first.y.bits;
+    let x2 = second.x.bits;
+    let y2 = second.y.bits;
+    let x = end.x.bits;
+    let y = end.y.bits;
+    out[0] = CURVE;
+    out[1] = x1;
+    out[2] = y1;
+    out[3] = x2;
+    out[4] = y2;
+    out[5] = x;
+    out[6] = y;
 }

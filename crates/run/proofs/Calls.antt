@@ -11,14 +11,15 @@ use lib.ListN.{length, take, drop}
 use borrow.Author.Tests.{le-leb}
 use Rattle.zones.specs.declared.state.HintState.{HintState}
 use Rattle.pen.specs.declared.strokes.Pen.{Pen}
-use Rattle.pen.specs.declared.strokes.Stroke.{Stroke}
-use Rattle.pen.specs.Records.{wordsOf, fits}
+use Rattle.pen.specs.Strokes.{Stroke}
+use Rattle.pen.specs.Records.{fits}
 use Rattle.hints.specs.declared.hints.Hints.{Hints}
 use Rattle.pen.specs.declared.strokes.Path.{Path}
-use Rattle.hints.specs.declared.path.Drawn.{Drawn}
+use Rattle.pen.specs.declared.drawn.Drawn.{Drawn}
 use Rattle.hints.specs.Hints.{readyOf}
 use Rattle.hints.specs.Path.{hasPoint, strokeBy}
-use Rattle.hints.proofs.Steps.{ready-idle, ready-twice, DrewWords, DrewNothing}
+use Rattle.pen.proofs.Drew.{DrewWords, DrewNothing}
+use Rattle.hints.proofs.Steps.{ready-idle, ready-twice}
 use Rattle.hints.specs.declared.drawing.Drawing.{Drawing}
 use Rattle.hints.specs.Calls.{Call, draw, readyFor, hintsOf, still, strokeOf}
 use Rattle.words.specs.declared.answer.Answer.the-variants.{Ok, NoRoom}
@@ -54,12 +55,12 @@ module _ (st : HintState) where
   steps-first : (h : Hints) (pen : Pen) (place : ℕ) (c : Call) (cs : List Asked) (t : Stroke) (k : Hints) →
       strokeOf st h pen c ≡ t → hintsOf st h c ≡ k →
       stepsOf st (drawingOf h pen) (record { place = place; call = c } ∷ cs) ≡
-      record { place = place; words = wordsOf (t .records) } ∷ stepsOf st (drawingOf k (t .pen)) cs
+      record { place = place; words = t .words } ∷ stepsOf st (drawingOf k (t .pen)) cs
   unfolding stepsOf
   steps-first h pen place c cs t k f q =
-      ap (λ (x : Stroke). record { place = place; words = wordsOf (x .records) } ∷
+      ap (λ (x : Stroke). record { place = place; words = x .words } ∷
       stepsOf st (drawingOf (hintsOf st h c) (x .pen)) cs) f ∙
-      ap (λ (x : Hints). record { place = place; words = wordsOf (t .records) } ∷ stepsOf st (drawingOf x (t .pen)) cs)
+      ap (λ (x : Hints). record { place = place; words = t .words } ∷ stepsOf st (drawingOf x (t .pen)) cs)
       q
 
 -- how a run stands before some calls, of all whose steps these are
@@ -78,8 +79,8 @@ module _ {st : HintState} {all : List Step} {out₀ : List ℤ} {place : ℕ} {c
     (g : Standing st all out₀ (record { place = place; call = c } ∷ cs) h pen next out) where
   -- a call whose words fit
   pub turned : (t : Stroke) (k : Hints) → strokeOf st h pen c ≡ t → hintsOf st h c ≡ k →
-      fits (wordsOf (t .records)) (drop next out) ≡ true →
-      Standing st all out₀ cs k (t .pen) (next + length (wordsOf (t .records))) (placed next (wordsOf (t .records)) out)
+      fits (t .words) (drop next out) ≡ true →
+      Standing st all out₀ cs k (t .pen) (next + length (t .words)) (placed next (t .words) out)
   turned t k f q r = record { along = wrote (following (steps-first st h pen place c cs t k f q) (g .along)) r }
 
   -- one that writes nothing

@@ -2,27 +2,20 @@
 -- nothing.
 use mathlib.Core.Path.{_≡_, refl, sym, ap, _∙_}
 use mathlib.Core.Bool.{Bool, true, false}
-use mathlib.Core.List.{List, [], _∷_, _++_, append-assoc, append-nil}
+use mathlib.Core.List.{List, [], _∷_, _++_, append-assoc}
 use Prim.Native.Nat.{ℕ, _+_, _-_, _≤_}
 use native.Mathlib.Nat.{zero-add}
 use native.Mathlib.Omega.{arith}
 use lib.Dec.{leb}
 use lib.IntN.{ℤ}
-use lib.ListN.{length, take, drop, length-append, length-drop, take-append-drop, drop-of-length-le}
-use lib.Seq.{length-take-le, drop-drop, take-at, drop-at}
-use borrow.Rule.Slice.PartMut.{putMid}
+use lib.ListN.{length, take, drop, length-append, length-drop, take-append-drop}
+use lib.Seq.{length-take-le, take-at, drop-at}
 use borrow.Author.Tests.{leb-true}
 use Rattle.words.specs.declared.answer.Answer.{Answer}
 use Rattle.words.specs.declared.answer.Answer.the-variants.{Ok, NoRoom}
 use Rattle.pen.specs.Records.{written, fits}
+use Rattle.pen.proofs.Words.{written-both}
 use Rattle.run.specs.Room.{Step, Fitted, fitBy, fitted}
-
--- what was lent comes home
-pub back : {A : Type 0} (a : ℕ) (xs ys : List A) → putMid a (length xs - a) xs ys ≡ take a xs ++ ys
-back a xs ys =
-    let h : length (drop a xs) ≤ length xs - a = simp length-drop (omega arith) in
-    let e : drop (length xs - a) (drop a xs) ≡ [] = drop-of-length-le (drop a xs) h in
-    rw (e, append-nil)
 
 -- how a run stands: what the commands from here on make of the words from next on is what all
 -- commands make of all words
@@ -56,11 +49,6 @@ following e a = rw e at a
 -- ws at the next free words
 abbrev pub placed : ℕ → List ℤ → List ℤ → List ℤ
 placed next ws out = take next out ++ written ws (drop next out)
-
--- some words, and more behind them
-written-both : (ws vs out : List ℤ) → written (ws ++ vs) out ≡ ws ++ written vs (drop (length ws) out)
-unfolding written
-written-both ws vs out = rw (append-assoc, length-append, drop-drop)
 
 module _ (next : ℕ) (ws out : List ℤ) (h : next ≤ length out) (f : length ws ≤ length (drop next out)) where
   front : List ℤ

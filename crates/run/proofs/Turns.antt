@@ -12,12 +12,12 @@ use Rattle.pen.specs.declared.strokes.Pen.{Pen}
 use Rattle.pen.specs.Strokes.{newPen}
 use Rattle.hints.specs.declared.hints.Hints.{Hints}
 use Rattle.pen.specs.declared.strokes.Path.{Path}
-use Rattle.hints.specs.declared.path.Drawn.{Drawn}
+use Rattle.pen.specs.declared.drawn.Drawn.{Drawn}
 use Rattle.hints.specs.Hints.{newHints, readyOf}
 use Rattle.hints.specs.Path.{hasPoint, strokeBy}
 use Rattle.hints.specs.Calls.{hintsOf, still, strokeOf}
 use Rattle.hints.specs.Calls.{newDrawing}
-use Rattle.hints.proofs.Steps.{DrewWords, DrewNothing}
+use Rattle.pen.proofs.Drew.{DrewWords, DrewNothing}
 use Rattle.words.specs.declared.answer.Answer.{Answer}
 use Rattle.words.specs.declared.answer.Answer.the-variants.{Ok, NoRoom}
 use Rattle.words.specs.Words.{rawAt}

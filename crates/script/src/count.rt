@@ -1,17 +1,15 @@
 // How many records there are in some words.
 use fixed::least;
+use pen::BARE_RECORD;
 use pen::CURVE;
+use pen::CURVE_RECORD;
 use pen::LINE;
 use pen::MOVE;
+use pen::POINT_RECORD;
 ghost use mathlib.Core.Path.{_≡_};
 ghost use Prim.Native.Nat.{_≤_};
 ghost use lib.ListN.{take};
 ghost use Rattle.script.specs.Count.{sizeOf, recordsIn};
-
-// The words of a record: its kind, and two for each point.
-const POINT_RECORD: usize = 3;
-
-const CURVE_RECORD: usize = 7;
 
 // The words that a record of a kind takes.
 fn size(kind: i32) -> usize
@@ -26,7 +24,7 @@ fn size(kind: i32) -> usize
     if kind == CURVE {
         return CURVE_RECORD;
     }
-    1
+    BARE_RECORD
 }
 
 // The records in the first words of an output.

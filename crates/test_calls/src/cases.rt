@@ -2,8 +2,8 @@
 use crate::calls;
 use crate::lent;
 use crate::openings;
-use hints::CallAnswer;
 use hints::Drawing;
+use pen::CallAnswer;
 use zones::HintState;
 ghost use Prim.Native.Nat.{_+_, _≤_, _<_};
 

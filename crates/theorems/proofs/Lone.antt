@@ -11,7 +11,7 @@ use Rattle.fixed.proofs.Order.{heights}
 use Rattle.zones.specs.declared.state.HintParams.{HintParams}
 use Rattle.zones.specs.declared.state.HintState.{HintState}
 use Rattle.pen.specs.Records.{written, fits}
-use Rattle.hints.specs.Path.{callNumber, callWords}
+use Rattle.pen.specs.Drawn.{callNumber, callWords}
 use Rattle.hints.specs.declared.drawing.Drawing.{Drawing}
 use Rattle.drawing.specs.declared.calls.After.{After}
 use Rattle.drawing.specs.declared.opening.Opened.{Opened}

@@ -14,7 +14,6 @@ use Rattle.pen.specs.declared.strokes.Pen.{Pen}
 use Rattle.pen.specs.declared.strokes.Waiting.{Waiting}
 use Rattle.pen.specs.declared.strokes.Waiting.the-variants.{Line as Waits, Absent as NoLine}
 use Rattle.pen.specs.Strokes.{moveOf, lineOf, curveOf, finishOf}
-use Rattle.pen.proofs.Words.{words-emitted}
 use Rattle.hints.specs.declared.hints.Hints.{Hints}
 use Rattle.pen.specs.declared.strokes.Path.{Path}
 use Rattle.pen.specs.declared.strokes.Path.the-variants.{Move, Line, Curve, Finish}
@@ -230,8 +229,8 @@ pub pointed : (st : HintState) (d : Drawing) → Pointed st d
 unfolding moveOf lineOf curveOf devicePoint
 pointed st d =
     record {
-      move = λ p. words-emitted _;
-      line = λ p. words-emitted _;
+      move = λ p. refl;
+      line = λ p. refl;
       waits = λ p. refl;
-      curve = λ p q r. words-emitted _;
+      curve = λ p q r. refl;
     }

@@ -15,10 +15,8 @@ use Rattle.pen.specs.declared.strokes.Start.the-variants.{At, Absent as NoStart
 use Rattle.pen.specs.declared.strokes.Waiting.{Waiting}
 use Rattle.pen.specs.declared.strokes.Waiting.the-variants.{Line as Waits, Absent as NoLine}
 use Rattle.pen.specs.declared.strokes.Pen.{Pen}
-use Rattle.pen.specs.Records.{emitted, wordsOf}
 use Rattle.pen.specs.Strokes.{samePoint, pointWords, closeBy, closingWords, waitingWords, flushWords, moveOf, lineOf}
 use Rattle.pen.specs.Strokes.{curveOf, finishOf}
-use Rattle.pen.proofs.Words.{words-emitted}
 use Rattle.pen.specs.declared.strokes.Path.{Path}
 use Rattle.pen.specs.declared.strokes.Path.the-variants.{Move, Line, Curve, Finish}
 use Rattle.hints.specs.Path.{strokeBy}
@@ -79,15 +77,12 @@ wait-whole : (w : Waiting) → Some (waitingWords w)
 wait-whole NoLine = (0, none)
 wait-whole (Waits at device) = single (line (device .x .bits) (device .y .bits))
 
-emitted-whole : (ws : List ℤ) → Some ws → Some (wordsOf (emitted ws))
-emitted-whole ws h = subst Some (sym (words-emitted ws)) h
-
-stroke-whole : (m : HintMap) (s : Fixed) (pen : Pen) (p : Path) → Some (wordsOf (strokeBy m s pen p .records))
+stroke-whole : (m : HintMap) (s : Fixed) (pen : Pen) (p : Path) → Some (strokeBy m s pen p .words)
 unfolding moveOf lineOf curveOf finishOf closingWords flushWords
-stroke-whole m s pen (Move p) = emitted-whole _ (both (close-whole (pen .start) (pen .waiting)) (single (move _ _)))
-stroke-whole m s pen (Line p) = emitted-whole _ (wait-whole (pen .waiting))
-stroke-whole m s pen (Curve p q r) = emitted-whole _ (both (wait-whole (pen .waiting)) (single (curve _ _ _ _ _ _)))
-stroke-whole m s pen Finish = emitted-whole _ (both (close-whole (pen .start) (pen .waiting)) (single finish))
+stroke-whole m s pen (Move p) = both (close-whole (pen .start) (pen .waiting)) (single (move _ _))
+stroke-whole m s pen (Line p) = wait-whole (pen .waiting)
+stroke-whole m s pen (Curve p q r) = both (wait-whole (pen .waiting)) (single (curve _ _ _ _ _ _))
+stroke-whole m s pen Finish = both (close-whole (pen .start) (pen .waiting)) (single finish)
 
 -- ---- of a call, and of a run
 call-whole : (st : HintState) (d : Drawing) (c : Call) → Some (wordsFor st d c)

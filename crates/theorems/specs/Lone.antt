@@ -13,7 +13,7 @@ use Rattle.zones.specs.declared.state.HintParams.{HintParams}
 use Rattle.zones.specs.declared.state.HintState.{HintState}
 use Rattle.zones.specs.State.{stateOf}
 use Rattle.pen.specs.Records.{written}
-use Rattle.hints.specs.Path.{callNumber, callWords, callPlace}
+use Rattle.pen.specs.Drawn.{callNumber, callWords, callPlace}
 use Rattle.hints.specs.declared.drawing.Drawing.{Drawing}
 use Rattle.drawing.specs.declared.calls.After.{After}
 use Rattle.drawing.specs.declared.opening.Opened.{Opened}

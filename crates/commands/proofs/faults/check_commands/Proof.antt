@@ -2,7 +2,7 @@
 use Prim.Native.Nat.{_*_}
 use borrow.Author.Needs.{needs}
 use Rattle.words.proofs.Answers.{says}
-use Rattle.commands.proofs.Laws.{lent}
+use Rattle.pen.proofs.Lent.{lent}
 use Rattle.commands.proofs.faults.check_commands.Statement.{statement}
 use Rattle.commands.proofs.faults.check_commands.Tie as tie
 

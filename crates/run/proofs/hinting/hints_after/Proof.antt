@@ -17,7 +17,8 @@ use Rattle.commands.specs.declared.reading.Command.{Command}
 use Rattle.commands.specs.declared.reading.Command.the-variants.{Mark}
 use Rattle.commands.specs.declared.reading.Read.{Read}
 use Rattle.commands.specs.Commands.{readAt}
-use Rattle.commands.proofs.Laws.{next-is, lent}
+use Rattle.pen.proofs.Lent.{lent}
+use Rattle.commands.proofs.Laws.{next-is}
 use Rattle.run.specs.Run.{callOf, maskEnd}
 use Rattle.run.proofs.Calls.{idle-hints}
 use Rattle.run.proofs.Reading.{mask-there}

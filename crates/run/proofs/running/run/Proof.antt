@@ -6,21 +6,22 @@ use Prim.Native.Nat.{_+_, _-_, _*_, _<_}
 use native.Mathlib.Omega.{arith}
 use lib.ListN.{length, drop, length-drop, take-append-drop}
 use borrow.Author.Tests.{leb-true}
-use Rattle.pen.specs.Records.{wordsOf}
 use borrow.Author.Needs.{needs}
 use borrow.Rule.Slice.PartMut.{putMid, same-len-mid}
 use mathlib.Core.Bool.{false}
 use Rattle.hints.specs.declared.hints.Hints.{Hints}
 use Rattle.pen.specs.declared.strokes.Path.{Path}
-use Rattle.hints.specs.Path.{strokeBy, Drew}
-use Rattle.hints.proofs.Steps.{ready-valid, drew-wrote, drew-refused}
+use Rattle.pen.specs.Drawn.{Drew}
+use Rattle.pen.proofs.Lent.{lent, back}
+use Rattle.pen.proofs.Drew.{drew-wrote, drew-refused}
+use Rattle.hints.specs.Path.{strokeBy}
+use Rattle.hints.proofs.Steps.{ready-valid}
 use Rattle.words.specs.Words.{rawAt}
 use Rattle.commands.specs.declared.reading.Read.{Read}
 use Rattle.commands.specs.declared.reading.Command.the-variants.{Mark, Draw}
 use Rattle.commands.specs.Commands.{readAt, nextAt}
-use Rattle.commands.proofs.Laws.{next-is, lent}
+use Rattle.commands.proofs.Laws.{next-is}
 use Rattle.run.specs.Run.{wantsMap}
-use Rattle.run.proofs.Filling.{back}
 use Rattle.run.proofs.Reading.{mask-there}
 use Rattle.run.proofs.Turns.{close-idle, Going, going, turn-mark, turn-ready, turn-drew}
 use Rattle.run.proofs.Turns.{turn-refused, turn-done, unready, unready-one, wanted}
@@ -235,9 +236,9 @@ add-next c =
       fits = omega (
         arith,
         q .count,
-        leb-true (length (wordsOf
+        leb-true (length
             (strokeBy (l .loop .hints .map) (begin l .args .state .scale) (l .loop .pen)
-            (path (d .before .before .before)) .records))) (length (drop (l .loop .next) (l .loop .out))) (q .fit),
+            (path (d .before .before .before)) .words)) (length (drop (l .loop .next) (l .loop .out))) (q .fit),
         length-drop (l .loop .next) (l .loop .out),
         l .loop .inv .stands .along .within,
         room l,

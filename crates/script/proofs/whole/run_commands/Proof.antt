@@ -4,7 +4,7 @@ use Prim.Native.Nat.{_*_, _≤_}
 use lib.ListN.{length}
 use native.Mathlib.Omega.{arith}
 use Rattle.words.specs.Words.{rawAt}
-use Rattle.commands.proofs.Laws.{lent}
+use Rattle.pen.proofs.Lent.{lent}
 use Rattle.script.proofs.Passed.{passed, runnable, ran}
 use borrow.Author.Needs.{needs}
 use Rattle.script.proofs.whole.run_commands.Statement.{statement}

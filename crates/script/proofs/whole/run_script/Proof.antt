@@ -17,8 +17,7 @@ use Rattle.words.specs.declared.answer.Answer.{Answer}
 use Rattle.words.specs.declared.answer.Answer.the-variants.{Ok}
 use Rattle.words.specs.Answers.{firstOf, numberOf, refuses}
 use Rattle.words.proofs.Answers.{not-refused, says, says-is}
-use Rattle.run.proofs.Filling.{back}
-use Rattle.commands.proofs.Laws.{lent}
+use Rattle.pen.proofs.Lent.{lent, back}
 use Rattle.script.specs.Script.{checkRows, scriptOf, Scripted}
 use Rattle.script.proofs.Passed.{passed}
 use Rattle.script.proofs.Results.{refused, taken, by-fault, by-size, ran, by-room, by-run, header-before, behind}
