@@ -7,3 +7,4 @@ mod path;
 pub use drawing::Drawing;
 pub use hints::Hints;
 pub use path::draw;
+pub use path::draw_by_lines;

@@ -1,40 +1,68 @@
 // A path call on a map and a pen alone, which is what a run of calls repeats.
 use fixed::Fixed;
+use fixed::least;
 use hintmap::HintMap;
+use hintmap::transform;
 use pen::Drawn;
 use pen::Path;
 use pen::Pen;
 use pen::Point;
-ghost use mathlib.Core.Path.{_≡_};
+use stems::LINES;
+use stems::MAX_HINTS;
+use stems::TAGS;
+ghost use Prim.Native.Nat.{_≤_};
+ghost use Rattle.stems.specs.Edge.{maxHints};
 ghost use Rattle.pen.specs.Drawn.{Drew};
-ghost use Rattle.hints.specs.Hints.{devicePoint};
-ghost use Rattle.hints.specs.Path.{strokeBy};
+ghost use Rattle.hints.specs.Path.{strokeBy, PlacesBy, DrawsBy};
 
-// Ports `hint` and `scale`: a character point on the device.
-fn place(map: HintMap, scale: Fixed, at: Point) -> Point
-    ensures { λ r. ⌜ r ≡ devicePoint map scale at ⌝ }
+// Ports `hint` and `scale`: a character point on the device, by the lines of a map and its own
+// scale.
+fn place(lines: &[i32; LINES], len: usize, base: Fixed, scale: Fixed, at: Point) -> Point
+    requires { ⌜ len ≤ maxHints ⌝ }
+    ensures { λ r. ⌜ PlacesBy (now (lines .entry)) len base scale at r ⌝ }
 {
     let x = at.x;
     let y = at.y;
     Point {
         x: x.mul(scale).trunc(),
-        y: map.transform(y).trunc(),
+        y: transform(lines, len, base, y).trunc(),
     }
 }
 
-// Draws by a map into what is lent: all of the call's records or none.
-pub fn draw(map: HintMap, scale: Fixed, pen: Pen, path: Path, out: &mut [i32]) -> Drawn
-    ensures { λ r. ⌜ Drew (strokeBy map scale pen path) pen (now (out .entry)) r (now (out .exit)) ⌝ }
+// Draws by the lines of a map, with its own scale, into what is lent: all of the call's records or
+// none.
+pub fn draw_by_lines(
+    lines: &[i32; LINES],
+    len: usize,
+    base: Fixed,
+    scale: Fixed,
+    pen: Pen,
+    path: Path,
+    out: &mut [i32],
+) -> Drawn
+    requires { ⌜ len ≤ maxHints ⌝ }
+    ensures { λ r. ⌜ DrawsBy (now (lines .entry)) len base scale pen path (now (out .entry)) r (now (out .exit)) ⌝ }
 {
     match path {
-        Path::Move(at) => pen.move_to(at, place(map, scale, at), out),
-        Path::Line(at) => pen.line_to(at, place(map, scale, at), out),
+        Path::Move(at) => pen.move_to(at, place(lines, len, base, scale, at), out),
+        Path::Line(at) => pen.line_to(at, place(lines, len, base, scale, at), out),
         Path::Curve(first, second, end) => pen.curve_to(
-            place(map, scale, first),
-            place(map, scale, second),
-            place(map, scale, end),
+            place(lines, len, base, scale, first),
+            place(lines, len, base, scale, second),
+            place(lines, len, base, scale, end),
             out,
         ),
         Path::Finish => pen.finish(out),
     }
+}
+
+// The same by a map.
+pub fn draw(map: HintMap, scale: Fixed, pen: Pen, path: Path, out: &mut [i32]) -> Drawn
+    ensures { λ r. ⌜ Drew (strokeBy map scale pen path) pen (now (out .entry)) r (now (out .exit)) ⌝ }
+{
+    let mut lines = [0i32; LINES];
+    let mut tags = [0u8; TAGS];
+    map.list(&mut lines, &mut tags);
+    let len = least(map.len, MAX_HINTS);
+    draw_by_lines(&lines, len, map.scale, scale, pen, path, out)
 }

@@ -1,0 +1,184 @@
+// The hints of a run, kept in lists: its stems, the present mask and the lines of both maps. A command
+// changes them where they lie.
+use build::make_initial;
+use build::make_map;
+use fixed::Fixed;
+use stems::HINT_MASK_SIZE;
+use stems::HintMask;
+use stems::LINES;
+use stems::MAX_HINTS;
+use stems::STEM_NUMBERS;
+use stems::StemHint;
+use stems::TAGS;
+use stems::put_stem;
+use zones::HintState;
+ghost use mathlib.Core.Path.{_≡_};
+ghost use lib.ListN.{length};
+ghost use Rattle.stems.specs.Lists.{Whole};
+ghost use Rattle.run.specs.Kept.{noSizes, Stemmed, Masked, Cleared, Based, Buildable, Countered, Mappable, Readied};
+
+// How many stems there are, how long the initial map and the current one are, and whether each is
+// built.
+pub struct Sizes {
+    pub stems: usize,
+    pub initial: usize,
+    pub based: bool,
+    pub map: usize,
+    pub valid: bool,
+}
+
+// Hints with no stem and no map: every stem is active.
+pub(crate) fn clear_lists(mask: &mut [u8; HINT_MASK_SIZE], stems: &mut [i32; STEM_NUMBERS])
+    requires { ⌜ length (now stems) ≡ 480 ⌝ }
+    ensures { λ r. ⌜ Cleared (now (mask .exit)) (now (stems .exit)) ⌝ }
+{
+    for i in 0..HINT_MASK_SIZE {
+        mask[i] = 255;
+    }
+    for i in 0..STEM_NUMBERS {
+        stems[i] = 0;
+    }
+}
+
+impl Sizes {
+    // No stems, and two maps to be built.
+    pub(crate) fn none() -> Sizes
+        ensures { λ r. ⌜ r ≡ noSizes ⌝ }
+    {
+        Sizes {
+            stems: 0,
+            initial: 0,
+            based: false,
+            map: 0,
+            valid: false,
+        }
+    }
+
+    // Ports `add_stem`: a 97th stem, and one declared while the map is valid, is ignored.
+    pub(crate) fn with_stem(self, stems: &mut [i32; STEM_NUMBERS], min: Fixed, max: Fixed) -> Sizes
+        ensures { λ r. ⌜ Stemmed self (now (stems .entry)) min max r (now (stems .exit)) ⌝ }
+    {
+        if self.valid {
+            return self;
+        }
+        let count = self.stems;
+        if count < MAX_HINTS {
+            let zero = Fixed::ZERO;
+            let stem = StemHint {
+                is_used: false,
+                min,
+                max,
+                ds_min: zero,
+                ds_max: zero,
+            };
+            put_stem(stems, count, stem);
+            let mut sizes = self;
+            sizes.stems = count + 1;
+            return sizes;
+        }
+        self
+    }
+
+    // Ports `hint_mask`: a mask that differs makes the map invalid.
+    pub(crate) fn with_mask(self, mask: &mut [u8; HINT_MASK_SIZE], given: HintMask) -> Sizes
+        ensures { λ r. ⌜ Masked self (now (mask .entry)) given r (now (mask .exit)) ⌝ }
+    {
+        let mut same = true;
+        for i in 0..HINT_MASK_SIZE {
+            let byte = given.bytes[i];
+            if byte != mask[i] {
+                same = false;
+            }
+            mask[i] = byte;
+        }
+        let mut sizes = self;
+        if !same {
+            sizes.valid = false;
+        }
+        sizes
+    }
+
+    // From `build`: the initial map is made first, where it is not valid.
+    fn with_initial(
+        self,
+        initial: &mut [i32; LINES],
+        tags: &mut [u8; TAGS],
+        state: HintState,
+        stems: &[i32; STEM_NUMBERS],
+    ) -> Sizes
+        requires { ⌜ Whole (now initial) (now tags) ⌝ }
+        ensures { λ r. ⌜ Based state self (now (initial .entry)) (now (stems .entry)) r (now (initial .exit))
+            (now (tags .exit)) ⌝ }
+    {
+        if self.based {
+            return self;
+        }
+        let len = make_initial(initial, tags, state, stems, self.stems);
+        let mut sizes = self;
+        sizes.initial = len;
+        sizes.based = true;
+        sizes
+    }
+
+    // Ports `counter_mask`: a map that is thrown away, for the heights that it saves.
+    pub(crate) fn counter(
+        self,
+        initial: &mut [i32; LINES],
+        tags: &mut [u8; TAGS],
+        state: HintState,
+        mask: HintMask,
+        stems: &mut [i32; STEM_NUMBERS],
+    ) -> Sizes
+        requires { ⌜ Buildable self (now initial) (now tags) (now stems) ⌝ }
+        ensures { λ r. ⌜ Countered state mask self (now (initial .entry)) (now (stems .entry)) r (now (initial .exit))
+            (now (tags .exit)) (now (stems .exit)) ⌝ }
+    {
+        let sizes = self.with_initial(initial, tags, state, stems);
+        let mut thrown = [0i32; LINES];
+        make_map(
+            &mut thrown,
+            tags,
+            state,
+            mask,
+            stems,
+            sizes.stems,
+            initial,
+            sizes.initial,
+            state.scale,
+        );
+        sizes
+    }
+
+    // From `hint`: the map is built from the present mask.
+    pub(crate) fn ready(
+        self,
+        map: &mut [i32; LINES],
+        initial: &mut [i32; LINES],
+        tags: &mut [u8; TAGS],
+        state: HintState,
+        mask: &[u8; HINT_MASK_SIZE],
+        stems: &mut [i32; STEM_NUMBERS],
+    ) -> Sizes
+        requires { ⌜ Mappable self (now map) (now initial) (now tags) (now stems) (now mask) ⌝ }
+        ensures { λ r. ⌜ Readied state self (now (initial .entry)) (now (mask .entry)) (now (stems .entry)) r
+            (now (map .exit)) (now (initial .exit)) (now (tags .exit)) (now (stems .exit)) ⌝ }
+    {
+        let based = self.with_initial(initial, tags, state, stems);
+        let present = HintMask::new(mask);
+        let len = make_map(
+            map,
+            tags,
+            state,
+            present,
+            stems,
+            based.stems,
+            initial,
+            based.initial,
+            state.scale,
+        );
+        let mut sizes = based;
+        sizes.map = len;
+        sizes.valid = true;
+        sizes
+    }
+}
