@@ -13,9 +13,13 @@ use stems::TAGS;
 use stems::put_stem;
 use zones::HintState;
 ghost use mathlib.Core.Path.{_≡_};
+ghost use Prim.Native.Nat.{_≤_};
 ghost use lib.ListN.{length};
+ghost use Rattle.stems.specs.Edge.{maxHints};
+ghost use Rattle.stems.specs.Mask.{maskSize};
 ghost use Rattle.stems.specs.Lists.{Whole};
-ghost use Rattle.run.specs.Kept.{noSizes, Stemmed, Masked, Cleared, Based, Buildable, Countered, Mappable, Readied};
+ghost use Rattle.run.specs.Kept.{noSizes, Stemmed, Masked, Cleared, Based, Buildable, Countered};
+ghost use Rattle.run.specs.Kept.{Mappable, Readied};
 
 // How many stems there are, how long the initial map and the current one are, and whether each is
 // built.
@@ -29,7 +33,7 @@ pub struct Sizes {
 
 // Hints with no stem and no map: every stem is active.
 pub(crate) fn clear_lists(mask: &mut [u8; HINT_MASK_SIZE], stems: &mut [i32; STEM_NUMBERS])
-    requires { ⌜ length (now stems) ≡ 480 ⌝ }
+    requires { ⌜ (length (now mask) ≡ maskSize) × (length (now stems) ≡ 480) ⌝ }
     ensures { λ r. ⌜ Cleared (now (mask .exit)) (now (stems .exit)) ⌝ }
 {
     for i in 0..HINT_MASK_SIZE {
@@ -56,6 +60,7 @@ impl Sizes {
 
     // Ports `add_stem`: a 97th stem, and one declared while the map is valid, is ignored.
     pub(crate) fn with_stem(self, stems: &mut [i32; STEM_NUMBERS], min: Fixed, max: Fixed) -> Sizes
+        requires { ⌜ length (now stems) ≡ 480 ⌝ }
         ensures { λ r. ⌜ Stemmed self (now (stems .entry)) min max r (now (stems .exit)) ⌝ }
     {
         if self.valid {
@@ -81,6 +86,7 @@ impl Sizes {
 
     // Ports `hint_mask`: a mask that differs makes the map invalid.
     pub(crate) fn with_mask(self, mask: &mut [u8; HINT_MASK_SIZE], given: HintMask) -> Sizes
+        requires { ⌜ length (now mask) ≡ maskSize ⌝ }
         ensures { λ r. ⌜ Masked self (now (mask .entry)) given r (now (mask .exit)) ⌝ }
     {
         let mut same = true;
@@ -106,7 +112,7 @@ impl Sizes {
         state: HintState,
         stems: &[i32; STEM_NUMBERS],
     ) -> Sizes
-        requires { ⌜ Whole (now initial) (now tags) ⌝ }
+        requires { ⌜ Whole (now initial) (now tags) × (self .initial ≤ maxHints) ⌝ }
         ensures { λ r. ⌜ Based state self (now (initial .entry)) (now (stems .entry)) r (now (initial .exit))
             (now (tags .exit)) ⌝ }
     {

@@ -1,13 +1,18 @@
 // The commands that write nothing, and the masks that they name.
+use crate::kept::Sizes;
+use crate::kept::clear_lists;
 use commands::Marking;
-use hints::Hints;
+use stems::HINT_MASK_SIZE;
 use stems::HintMask;
+use stems::LINES;
+use stems::STEM_NUMBERS;
+use stems::TAGS;
 use zones::HintState;
 ghost use mathlib.Core.Path.{_≡_};
 ghost use Prim.Native.Nat.{_+_, _≤_};
 ghost use lib.ListN.{length, take, drop};
-ghost use Rattle.hints.specs.Calls.{hintsOf};
-ghost use Rattle.run.specs.Run.{maskAt, maskEnd, markCall};
+ghost use Rattle.run.specs.Run.{maskAt};
+ghost use Rattle.run.specs.Kept.{Markable, Marked};
 
 // The very bytes of the script that a mask command names.
 fn mask_part(script: &[u8], from: usize, len: usize) -> &[u8]
@@ -26,23 +31,34 @@ pub(crate) fn mask_at(script: &[u8], from: usize, start: u32, len: u32) -> HintM
     HintMask::new(mask_part(script, from + (start as usize), len as usize))
 }
 
-// What such a command makes of the hints.
+// What such a command makes of the hints that lists keep.
 pub(crate) fn marked(
-    state: HintState,
-    hints: Hints,
+    sizes: Sizes,
     script: &[u8],
     from: usize,
     marking: Marking,
-) -> Hints
-    requires { ⌜ from + maskEnd marking ≤ length (now script) ⌝ }
-    ensures { λ r. ⌜ r ≡ hintsOf state hints (markCall (now (script .entry)) from marking) ⌝ }
+    state: HintState,
+    mask: &mut [u8; HINT_MASK_SIZE],
+    stems: &mut [i32; STEM_NUMBERS],
+    initial: &mut [i32; LINES],
+    tags: &mut [u8; TAGS],
+) -> Sizes
+    requires { ⌜ Markable (now script) from marking sizes (now mask) (now stems) (now initial) (now tags) ⌝ }
+    ensures { λ r. ⌜ Marked state (now (script .entry)) from marking sizes (now (mask .entry)) (now (stems .entry))
+        (now (initial .entry)) r (now (mask .exit)) (now (stems .exit)) (now (initial .exit)) (now (tags .exit)) ⌝ }
 {
     match marking {
-        Marking::Bad => hints,
-        Marking::Stem(min, max) => hints.with_stem(min, max),
-        Marking::Mask { start, len } => hints.with_mask(mask_at(script, from, start, len)),
-        Marking::Counter { start, len } => hints.counter(state, mask_at(script, from, start, len)),
-        Marking::Clear => Hints::new(state.scale),
-        Marking::Close => hints,
+        Marking::Bad => sizes,
+        Marking::Stem(min, max) => sizes.with_stem(stems, min, max),
+        Marking::Mask { start, len } => sizes.with_mask(mask, mask_at(script, from, start, len)),
+        Marking::Counter { start, len } => {
+            let given = mask_at(script, from, start, len);
+            sizes.counter(initial, tags, state, given, stems)
+        }
+        Marking::Clear => {
+            clear_lists(mask, stems);
+            Sizes::none()
+        }
+        Marking::Close => sizes,
     }
 }

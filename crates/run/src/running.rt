@@ -1,13 +1,17 @@
 // The run: commands first to last, each drawing call lent the output from the next free word on.
+use crate::kept::Sizes;
 use crate::marks::marked;
 use commands::Command;
 use commands::Marking;
 use commands::read_command;
-use hints::Hints;
-use hints::draw;
+use hints::draw_by_lines;
 use pen::CallAnswer;
 use pen::Path;
 use pen::Pen;
+use stems::HINT_MASK_SIZE;
+use stems::LINES;
+use stems::STEM_NUMBERS;
+use stems::TAGS;
 use words::Answer;
 use zones::HintState;
 ghost use mathlib.Core.Path.{_≡_};
@@ -66,7 +70,12 @@ pub fn run(
         (callsOf (now (script .entry)) from (commandsOf first (rawAt (now (part .entry))) n)) (now (out .entry))) r
         (now (out .exit)) ⌝ }
 {
-    let mut hints = Hints::new(state.scale);
+    let mut mask = [255u8; HINT_MASK_SIZE];
+    let mut stems = [0i32; STEM_NUMBERS];
+    let mut initial = [0i32; LINES];
+    let mut map = [0i32; LINES];
+    let mut tags = [0u8; TAGS];
+    let mut sizes = Sizes::none();
     let mut pen = Pen::new();
     let mut next = 0;
     let mut at = 0;
@@ -79,15 +88,41 @@ pub fn run(
                     at = read.next;
                     continue;
                 }
-                hints = marked(state, hints, script, from, marking);
+                sizes = marked(
+                    sizes,
+                    script,
+                    from,
+                    marking,
+                    state,
+                    &mut mask,
+                    &mut stems,
+                    &mut initial,
+                    &mut tags,
+                );
                 at = read.next;
             }
             Command::Draw(path) => {
-                if wants_map(path, hints.map.is_valid) {
-                    hints = hints.ready(state);
+                if wants_map(path, sizes.valid) {
+                    sizes = sizes.ready(
+                        &mut map,
+                        &mut initial,
+                        &mut tags,
+                        state,
+                        &mask,
+                        &mut stems,
+                    );
                     continue;
                 }
-                let drawn = draw(hints.map, state.scale, pen, path, &mut out[next..]);
+                let scale = state.scale;
+                let drawn = draw_by_lines(
+                    &map,
+                    sizes.map,
+                    scale,
+                    scale,
+                    pen,
+                    path,
+                    &mut out[next..],
+                );
                 let answer = drawn.answer;
                 let CallAnswer::Wrote(count) = answer else {
                     return Ran {
