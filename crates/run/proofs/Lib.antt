@@ -2,6 +2,9 @@ pub mod Filling
 pub mod Calls
 pub mod Reading
 pub mod Turns
+pub mod Stemming
+pub mod Building
+pub mod Keeping
 pub mod Looking
 pub mod Bounds
 pub mod Unique

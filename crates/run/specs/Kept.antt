@@ -100,7 +100,8 @@ pub record Markable (s : List ℕ) (from : ℕ) (m : Marking) (z : Sizes) (bs : 
 -- and what it leaves
 pub record Marked (st : HintState) (s : List ℕ) (from : ℕ) (m : Marking) (z : Sizes) (bs : List ℕ) (ns is : List ℤ)
     (z′ : Sizes) (bs′ : List ℕ) (ns′ is′ : List ℤ) (ts′ : List ℕ) : Type 0 where
-  pub build : Buildable z′ is′ ts′ ns′
+  pub whole : Whole is′ ts′
+  pub long : length ns′ ≡ 480
   pub twelve : length bs′ ≡ maskSize
   pub kept : (h : Hints) (ms : List ℤ) → Kept st h z bs ns is ms →
       Kept st (hintsOf st h (markCall s from m)) z′ bs′ ns′ is′ ms

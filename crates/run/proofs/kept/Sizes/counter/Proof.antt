@@ -1,22 +1,19 @@
+-- `Sizes::counter` meets its contract, by those of its calls. Assumes nothing.
 use borrow.Author.Needs.{needs}
+use Rattle.run.proofs.Building.{counter-kept}
 use Rattle.run.proofs.kept.Sizes.counter.Statement.{statement}
 use Rattle.run.proofs.kept.Sizes.counter.Tie as tie
-use Rattle.run.proofs.kept.Sizes.counter.Reads as reads
-use Rattle.run.proofs.kept.Sizes.counter.Lts as lts
-use Rattle.build.proofs.make_map.Reads as make-map-reads
-use Rattle.run.proofs.kept.Sizes.with_initial.Reads as with-initial-reads
 
--- src/kept.rt:142:13
-with-initial-requires : tie.Need-with-initial-requires
-with-initial-requires c κs = search needs
-
--- src/kept.rt:144:9
-make-map-requires : tie.Need-make-map-requires
-make-map-requires c κs = search needs
-
--- src/kept.rt:130:5
 returns : tie.Need-returns
-returns c = ?
+returns c =
+    let i = c .before .before .before .before .before in
+    let b = i .with-initial .ensures in
+    let m = c .make-map .ensures in
+    let a = i .before .before .before .before .args in
+    record {
+      build = record { whole = record { all = b .whole .all; named = m .lent .whole .named }; long = m .long; fits = b .fits };
+      kept = λ h bs ms k. counter-kept (a .state) h _ bs _ _ ms (a .mask) _ _ _ _ (b .kept h bs ms k) m;
+    }
 
 pub counter-spec : {M : Type 1} → statement M
-counter-spec = tie.close (tie.spec with-initial-requires make-map-requires returns)
+counter-spec = tie.close (tie.spec (λ c κs. search needs) (λ c κs. search needs) returns)

@@ -1,27 +1,28 @@
+-- `Sizes::ready` meets its contract, by those of its calls. Assumes nothing.
 use borrow.Author.Needs.{needs}
+use mathlib.Core.Path.{refl, _∙_}
+use Rattle.run.proofs.Building.{ready-kept, twelve-bytes}
 use Rattle.run.proofs.kept.Sizes.ready.Statement.{statement}
 use Rattle.run.proofs.kept.Sizes.ready.Tie as tie
-use Rattle.run.proofs.kept.Sizes.ready.Reads as reads
-use Rattle.run.proofs.kept.Sizes.ready.Lts as lts
-use Rattle.build.proofs.make_map.Reads as make-map-reads
-use Rattle.run.proofs.kept.Sizes.with_initial.Reads as with-initial-reads
-use Rattle.stems.proofs.mask.HintMask.new.Reads as new-reads
 
--- src/kept.rt:172:13
-with-initial-requires : tie.Need-with-initial-requires
-with-initial-requires c κs = search needs
-
--- src/kept.rt:173:13
-new-requires : tie.Need-new-requires
-new-requires c κs = search needs
-
--- src/kept.rt:174:13
-make-map-requires : tie.Need-make-map-requires
-make-map-requires c κs = search needs
-
--- src/kept.rt:159:5
 returns : tie.Need-returns
-returns c = ?
+returns c =
+    let n = c .before .before .before .before .before in
+    let i = n .before .before in
+    let b = i .with-initial .ensures in
+    let m = c .make-map .ensures in
+    let s = i .before .before .before .before in
+    let a = s .args in
+    let e = n .new .ensures ∙ twelve-bytes _ (s .pre .twelve) in
+    record {
+      map = record {
+        build = record { whole = record { all = b .whole .all; named = m .lent .whole .named }; long = m .long; fits = b .fits };
+        current = m .lent .whole .all;
+        twelve = s .pre .twelve;
+      };
+      valid = refl;
+      kept = λ h ms v k. ready-kept (a .state) h _ _ _ _ ms _ _ _ _ (k .map .valid ∙ v) (b .kept h _ ms k) (rw e at m);
+    }
 
 pub ready-spec : {M : Type 1} → statement M
-ready-spec = tie.close (tie.spec with-initial-requires new-requires make-map-requires returns)
+ready-spec = tie.close (tie.spec (λ c κs. search needs) (λ c κs. search needs) (λ c κs. search needs) returns)

@@ -1,21 +1,29 @@
+-- `Sizes::with_initial` meets its contract: an initial map is made where there is none. Assumes
+-- nothing.
 use borrow.Author.Needs.{needs}
+use Rattle.run.proofs.Building.{stays-based, gets-based}
 use Rattle.run.proofs.kept.Sizes.with_initial.Statement.{statement}
 use Rattle.run.proofs.kept.Sizes.with_initial.Tie as tie
-use Rattle.run.proofs.kept.Sizes.with_initial.Reads as reads
-use Rattle.run.proofs.kept.Sizes.with_initial.Lts as lts
-use Rattle.build.proofs.make_initial.Reads as make-initial-reads
 
--- src/kept.rt:120:13
 returns : tie.Need-returns
-returns c = ?
+returns c =
+    let s = c .before in
+    record {
+      whole = s .pre .0;
+      fits = s .pre .1;
+      kept = λ h bs ms k. stays-based (s .args .state) h (s .args .self) bs _ _ ms k (c .if1 .taken);
+    }
 
--- src/kept.rt:122:13
-make-initial-requires : tie.Need-make-initial-requires
-make-initial-requires c κs = search needs
-
--- src/kept.rt:108:5
 returns-2 : tie.Need-returns-2
-returns-2 c = ?
+returns-2 c =
+    let e = c .before .before .before in
+    let a = e .before .args in
+    let m = c .make-initial .ensures in
+    record {
+      whole = m .lent .whole;
+      fits = m .lent .fits;
+      kept = λ h bs ms k. gets-based (a .state) h (a .self) bs _ _ ms k _ _ _ (e .if1 .left) m;
+    }
 
 pub with-initial-spec : {M : Type 1} → statement M
-with-initial-spec = tie.close (tie.spec returns make-initial-requires returns-2)
+with-initial-spec = tie.close (tie.spec returns (λ c κs. search needs) returns-2)

@@ -1,0 +1,262 @@
+-- `run` does the commands first to last, over hints that lists keep. At each turn the commands from
+-- here on, over the hints and the pen, make of the words from the next free one what all commands
+-- make of all words; a turn takes a command, or makes the map that one wants. Assumes nothing.
+use mathlib.Core.Path.{_≡_, refl, sym, ap, _∙_}
+use mathlib.Core.Bool.{true, false}
+use Prim.Native.Nat.{_+_, _-_, _*_, _<_, _≤_}
+use native.Mathlib.Omega.{arith}
+use lib.ListN.{length, drop, length-drop}
+use borrow.Author.Tests.{leb-true}
+use borrow.Author.Needs.{needs}
+use borrow.Rule.Slice.PartMut.{putMid, same-len-mid}
+use Rattle.pen.specs.declared.strokes.Path.{Path}
+use Rattle.pen.specs.Drawn.{Drew}
+use Rattle.pen.proofs.Lent.{lent, back}
+use Rattle.pen.proofs.Drew.{drew-wrote, drew-refused}
+use Rattle.hints.specs.Path.{hasPoint, strokeBy}
+use Rattle.words.specs.Words.{rawAt}
+use Rattle.commands.specs.declared.reading.Read.{Read}
+use Rattle.commands.specs.declared.reading.Command.the-variants.{Mark, Draw}
+use Rattle.commands.specs.Commands.{readAt, nextAt}
+use Rattle.commands.proofs.Laws.{next-is}
+use Rattle.run.specs.Run.{wantsMap}
+use Rattle.run.proofs.Reading.{mask-there}
+use Rattle.run.proofs.Turns.{turn-done, unready, unready-one, wanted}
+use Rattle.run.proofs.Keeping.{Running, starts, mappable, closes, marks, readies, draws, refuses}
+use Rattle.run.proofs.running.run.Statement.{statement}
+use Rattle.run.proofs.running.run.Tie as tie
+
+abbrev Inv-loop : tie.InvT-loop
+Inv-loop script part first n from state out₀ mask₀ stems₀ initial₀ map₀ tags₀ sizes₀ pen₀ next₀ at₀ out mask stems
+    initial map tags sizes pen next at =
+    Running state script part first n from out₀ mask stems initial map tags sizes pen next at out
+
+abbrev μ-loop : tie.MeasureT-loop
+μ-loop script part first n from state out₀ mask₀ stems₀ initial₀ map₀ tags₀ sizes₀ pen₀ next₀ at₀ out mask stems
+    initial map tags sizes pen next at =
+    2 * (n - at) + unready (sizes .valid)
+
+-- the arguments, from a turn's start
+abbrev begin : tie.At-loop Inv-loop μ-loop → tie.Start Inv-loop μ-loop
+begin l = l .before .before .before .before .before
+
+-- no output is longer than memory
+room : (l : tie.At-loop Inv-loop μ-loop) → length (begin l .args .out .now) * 4 < 9223372036854775808
+room l = omega (arith, begin l .good .1 .1 .1 .1 .1 .1 .0)
+
+-- the command that was read, and the word behind it
+module _ (c : tie.After-read-command Inv-loop μ-loop) where
+  abbrev turn : tie.At-loop Inv-loop μ-loop
+  turn = c .before .before
+
+  read-is : c .read-command .result .command ≡
+      readAt (rawAt (begin turn .args .part .now)) (begin turn .args .n) (turn .loop .at) .command
+  read-is = ap (λ (r : Read). r .command) (c .read-command .ensures)
+
+  moved : c .read-command .result .next ≡ nextAt (rawAt (begin turn .args .part .now)) (turn .loop .at)
+  moved = ap (λ (r : Read). r .next) (c .read-command .ensures) ∙ next-is _ _ _
+
+-- a command that writes nothing
+module _ (c : tie.After-command Inv-loop μ-loop) where
+  abbrev mark-turn : tie.At-loop Inv-loop μ-loop
+  mark-turn = turn (c .before .before)
+
+  mark-is : readAt (rawAt (begin mark-turn .args .part .now)) (begin mark-turn .args .n) (mark-turn .loop .at) .command
+      ≡ Mark (c .command .given .0 .0)
+  mark-is = sym (read-is (c .before .before)) ∙ c .command .given .1
+
+-- a call that draws
+module _ (c : tie.After-wants-map Inv-loop μ-loop) where
+  abbrev draw-read : tie.After-read-command Inv-loop μ-loop
+  draw-read = c .before .before .before .before
+
+  abbrev draw-turn : tie.At-loop Inv-loop μ-loop
+  draw-turn = turn draw-read
+
+  abbrev path : Path
+  path = c .before .before .command2 .given .0 .0
+
+  draw-is : readAt (rawAt (begin draw-turn .args .part .now)) (begin draw-turn .args .n) (draw-turn .loop .at) .command
+      ≡ Draw path
+  draw-is = sym (read-is draw-read) ∙ c .before .before .command2 .given .1
+
+-- the call, over the rest of the output
+module _ (c : tie.After-draw-by-lines Inv-loop μ-loop) where
+  abbrev asked : tie.After-wants-map Inv-loop μ-loop
+  asked = c .before .before .before .before .before
+
+  abbrev call-turn : tie.At-loop Inv-loop μ-loop
+  call-turn = draw-turn asked
+
+  drew : Drew (strokeBy (call-turn .loop .inv .hints .map) (begin call-turn .args .state .scale) (call-turn .loop .pen)
+      (path asked)) (call-turn .loop .pen) (drop (call-turn .loop .next) (call-turn .loop .out))
+      (c .draw-by-lines .result) (c .draw-by-lines .last .1 .1 .1 .1 .1 .1 .0)
+  drew =
+      let k = call-turn .loop .inv .kept .map in
+      rw (lent (call-turn .loop .out) (call-turn .loop .next)) at
+      (c .draw-by-lines .ensures (call-turn .loop .inv .hints .map) (k .scale) (k .lines))
+
+  unwanted : wantsMap (call-turn .loop .sizes .valid) (path asked) ≡ false
+  unwanted = sym (asked .wants-map .ensures) ∙ c .before .before .before .before .if2 .left
+
+  same-out : length (putMid (call-turn .loop .next) (length (call-turn .loop .out) - call-turn .loop .next)
+      (call-turn .loop .out) (c .draw-by-lines .last .1 .1 .1 .1 .1 .1 .0)) ≡ length (begin call-turn .args .out .now)
+  same-out =
+      same-len-mid (call-turn .loop .next) (length (call-turn .loop .out) - call-turn .loop .next)
+      (call-turn .loop .out) (c .draw-by-lines .last .1 .1 .1 .1 .1 .1 .0)
+      (c .draw-by-lines .kept .1 .1 .1 .1 .1 .1 .0) ∙
+      call-turn .loop .inv .goes .stands .along .same
+
+loop-holds : tie.Need-loop-holds Inv-loop μ-loop
+loop-holds c =
+    let s = c .before .before .before .before in
+    let a = s .args in
+    rw (c .before .none .ensures, c .new .ensures)
+    (starts (a .state) (a .script .now) (a .part .now) (a .first) (a .n) (a .from) (a .out .now) _ _ _ (s .pre)
+    (record { all = refl; named = refl }) refl)
+
+read-command-requires : tie.Need-read-command-requires Inv-loop μ-loop
+read-command-requires c κs =
+    let r = begin (c .before) .pre in
+    (r .there, (r .short, c .loop-test .taken))
+
+loop-less : tie.Need-loop-less Inv-loop μ-loop
+loop-less c =
+    let r = c .before .before .before .before .before in
+    omega (arith, moved r, r .before .loop-test .taken)
+
+loop-again : tie.Need-loop-again Inv-loop μ-loop
+loop-again c =
+    let m = c .before .before .before in
+    let r = m .before .before in
+    rw (moved r)
+    (closes _ _ _ _ _ _ _ _ _ _ _ _ _ _ _ _ _ (mark-turn m .loop .inv) (r .before .loop-test .taken) (mark-is m)
+    (sym (c .before .is-close .ensures) ∙ c .if1 .taken))
+
+marked-requires : tie.Need-marked-requires Inv-loop μ-loop
+marked-requires c κs =
+    let m = c .before .before .before .before .before .before .before in
+    let g = mark-turn m .loop .inv in
+    record {
+      named = mask-there (g .goes .sound) (m .before .before .before .loop-test .taken) (mark-is m);
+      build = mappable _ _ _ _ _ _ _ _ _ _ _ _ _ _ _ _ _ g .build;
+      twelve = g .twelve;
+    }
+
+loop-less-2 : tie.Need-loop-less-2 Inv-loop μ-loop
+loop-less-2 c =
+    let m = c .before .before .before .before .before .before .before .before in
+    let r = m .before .before in
+    omega (arith, moved r, r .before .loop-test .taken, unready-one (c .marked .result .valid))
+
+loop-again-2 : tie.Need-loop-again-2 Inv-loop μ-loop
+loop-again-2 c =
+    let m = c .before .before .before .before .before .before .before .before in
+    let r = m .before .before in
+    rw (moved r)
+    (marks _ _ _ _ _ _ _ _ _ _ _ _ _ _ _ _ _ (mark-turn m .loop .inv) (r .before .loop-test .taken) _ _ _ _ _
+    (mark-is m) (c .marked .ensures))
+
+ready-requires : tie.Need-ready-requires Inv-loop μ-loop
+ready-requires c κs =
+    mappable _ _ _ _ _ _ _ _ _ _ _ _ _ _ _ _ _
+    (draw-turn (c .before .before .before .before .before .before) .loop .inv)
+
+-- where a map is made, it was wanted
+module _ (c : tie.After-ready Inv-loop μ-loop) where
+  abbrev for : tie.After-wants-map Inv-loop μ-loop
+  for = c .before .before .before .before .before .before .before
+
+  want : (draw-turn for .loop .sizes .valid ≡ false) × (hasPoint (path for) ≡ true)
+  want =
+      wanted (draw-turn for .loop .sizes .valid) (path for)
+      (sym (for .wants-map .ensures) ∙ c .before .before .before .before .before .before .if2 .taken)
+
+loop-less-3 : tie.Need-loop-less-3 Inv-loop μ-loop
+loop-less-3 c = omega (arith, ap unready (c .ready .ensures .valid), ap unready (want c .0))
+
+loop-again-3 : tie.Need-loop-again-3 Inv-loop μ-loop
+loop-again-3 c =
+    let w = for c in
+    readies _ _ _ _ _ _ _ _ _ _ _ _ _ _ _ _ _ (draw-turn w .loop .inv) (draw-read w .before .loop-test .taken)
+    _ _ _ _ _ (draw-is w) (want c .1) (want c .0) (c .ready .ensures)
+
+-- what is left of the output is where it was
+within : (c : tie.After-map2 Inv-loop μ-loop) → let l = draw-turn (c .before .before .before) in
+    l .loop .next ≤ length (l .loop .out)
+within c = draw-turn (c .before .before .before) .loop .inv .goes .stands .along .within
+
+mul-draw-by-lines : tie.Need-mul-draw-by-lines Inv-loop μ-loop
+mul-draw-by-lines c =
+    let l = draw-turn (c .before .before .before) in
+    record { fits = omega (arith, room l, within c, l .loop .inv .goes .stands .along .same) }
+
+draw-by-lines-requires : tie.Need-draw-by-lines-requires Inv-loop μ-loop
+draw-by-lines-requires c κs = draw-turn (c .before .before .before .before) .loop .inv .kept .map .fits
+
+add-t43 : tie.Need-add-t43 Inv-loop μ-loop
+add-t43 c =
+    let d = c .before .before .before in
+    let l = call-turn d in
+    omega (arith, begin l .pre .start, begin l .pre .short, draw-read (asked d) .before .loop-test .taken)
+
+returns : tie.Need-returns Inv-loop μ-loop
+returns c =
+    let d = c .before .before .before in
+    let w = asked d in
+    let l = call-turn d in
+    rw (back (l .loop .next) (l .loop .out))
+    (refuses _ _ _ _ _ _ _ _ _ _ _ _ _ _ _ _ _ (l .loop .inv) (draw-read w .before .loop-test .taken) _ _ (draw-is w)
+    (unwanted d) (drew-refused (drew d) (c .enum-told .given .1)))
+
+-- a call that wrote its words
+module _ (c : tie.After-pen Inv-loop μ-loop) where
+  abbrev done : tie.After-draw-by-lines Inv-loop μ-loop
+  done = c .before .before .before .before .before
+
+add-next : tie.Need-add-next Inv-loop μ-loop
+add-next c =
+    let d = done c in
+    let l = call-turn d in
+    let q = drew-wrote (drew d) (c .before .before .answer .given .0 .0) (c .before .before .answer .given .1) in
+    record {
+      fits = omega (
+        arith,
+        q .count,
+        leb-true (length
+            (strokeBy (l .loop .inv .hints .map) (begin l .args .state .scale) (l .loop .pen) (path (asked d)) .words))
+            (length (drop (l .loop .next) (l .loop .out))) (q .fit),
+        length-drop (l .loop .next) (l .loop .out),
+        l .loop .inv .goes .stands .along .within,
+        room l,
+        l .loop .inv .goes .stands .along .same,
+      );
+    }
+
+loop-less-4 : tie.Need-loop-less-4 Inv-loop μ-loop
+loop-less-4 c =
+    let r = draw-read (asked (done c)) in
+    omega (arith, moved r, r .before .loop-test .taken)
+
+loop-again-4 : tie.Need-loop-again-4 Inv-loop μ-loop
+loop-again-4 c =
+    let d = done c in
+    let w = asked d in
+    let l = call-turn d in
+    let q = drew-wrote (drew d) (c .before .before .answer .given .0 .0) (c .before .before .answer .given .1) in
+    rw (moved (draw-read w), back (l .loop .next) (l .loop .out))
+    (draws _ _ _ _ _ _ _ _ _ _ _ _ _ _ _ _ _ (l .loop .inv) (draw-read w .before .loop-test .taken) _ _ _ (draw-is w)
+    (unwanted d) q)
+
+returns-2 : tie.Need-returns-2 Inv-loop μ-loop
+returns-2 c = turn-done (c .before .loop .inv .goes) (omega arith)
+
+pub run-spec : {M : Type 1} → statement M
+run-spec =
+    tie.close
+    (tie.spec Inv-loop μ-loop (λ c κs. search needs) (λ c κs. search needs) loop-holds read-command-requires
+    (λ c. search needs) (λ c κs. search needs) loop-less loop-again marked-requires loop-less-2 loop-again-2
+    (λ c. search needs) (λ c κs. search needs) ready-requires loop-less-3 loop-again-3 mul-draw-by-lines
+    within within (λ c. search needs) draw-by-lines-requires (λ c. search needs)
+    (λ c. search needs) add-t43 (λ c. same-out (c .before .before .before)) returns add-next loop-less-4 loop-again-4
+    (λ c. c .before .loop .inv .goes .stands .along .same) returns-2)
