@@ -24,7 +24,7 @@ use Rattle.commands.specs.Commands.{readAt, nextAt}
 use Rattle.run.specs.declared.kept.Sizes.{Sizes}
 use Rattle.run.specs.Run.{Runnable, wantsMap, isClose}
 use Rattle.run.specs.Kept.{noSizes, Kept, Mappable, Marked, Readied}
-use Rattle.run.proofs.Stemming.{cleared-kept}
+use Rattle.run.proofs.Clearing.{cleared-kept}
 use Rattle.run.proofs.Turns.{Going, going, Gives, close-idle, turn-mark, turn-ready, turn-drew, turn-refused}
 
 module _ (st : HintState) (s part : List ℕ) (first n from : ℕ) (out₀ : List ℤ) where
@@ -45,7 +45,7 @@ module _ (st : HintState) (s part : List ℕ) (first n from : ℕ) (out₀ : Lis
       record {
         hints = _;
         goes = going st s part first n from r out₀;
-        kept = cleared-kept st _ _ is ms (record { all = refl; none = refl });
+        kept = cleared-kept st is ms (record { all = refl; none = refl });
         whole = w;
         long = refl;
         current = c;

@@ -2,7 +2,7 @@ pub mod Filling
 pub mod Calls
 pub mod Reading
 pub mod Turns
-pub mod Stemming
+pub mod Clearing
 pub mod Building
 pub mod Keeping
 pub mod Looking

@@ -15,7 +15,7 @@ use Rattle.commands.specs.declared.reading.Marking.{Marking}
 use Rattle.run.specs.declared.kept.Sizes.{Sizes}
 use Rattle.run.specs.Run.{maskEnd, markCall}
 use Rattle.run.specs.Kept.{Kept}
-use Rattle.run.proofs.Stemming.{cleared-kept}
+use Rattle.run.proofs.Clearing.{cleared-kept}
 use Rattle.run.proofs.marks.marked.Statement.{statement}
 use Rattle.run.proofs.marks.marked.Tie as tie
 
@@ -107,7 +107,7 @@ returns-5 c =
       long = ap length (k .none) ∙ length-replicate 480 (pos 0);
       twelve = ap length (k .all);
       kept = λ h ms q. told s (m .enum-told2 .given .1) h _ _ _ _ ms
-          (rw (c .none .ensures) (cleared-kept (s .args .state) _ _ _ ms k));
+          (rw (c .none .ensures) (cleared-kept (s .args .state) _ ms k));
     }
 
 returns-6 : tie.Need-returns-6
