@@ -2,7 +2,7 @@
 -- nothing.
 use mathlib.Core.Path.{_≡_, refl, sym, ap, _∙_}
 use mathlib.Core.Bool.{false}
-use mathlib.Core.List.{List, [], _∷_, _++_}
+use mathlib.Core.List.{List, []}
 use Prim.Native.Nat.{ℕ, _+_, _<_}
 use native.Mathlib.Numerals.{add-one}
 use native.Mathlib.Omega.{arith}
@@ -10,14 +10,12 @@ use lib.IntN.{ℤ, pos}
 use lib.ListN.{length, take, getD, set, replicate, length-replicate, getD-replicate, replicate-append-replicate}
 use lib.Seq.{take-all, take-suc-set}
 use Rattle.fixed.specs.declared.Fixed.{Fixed}
-use Rattle.fixed.specs.Fixed.{ZERO}
 use Rattle.stems.specs.declared.edge.StemHint.{StemHint}
-use Rattle.stems.specs.Mask.{ofBytes}
 use Rattle.stems.specs.Lists.{stemIn, stemsIn}
 use Rattle.stems.proofs.Places.{zeroStem, all-stems}
 use Rattle.zones.specs.declared.state.HintState.{HintState}
 use Rattle.hintmap.specs.Map.{newMap}
-use Rattle.hints.specs.Hints.{newHints, unusedStem}
+use Rattle.hints.specs.Hints.{newHints}
 use Rattle.run.specs.Kept.{noSizes, KeptMap, Kept, Cleared}
 
 module _ {A : Type 0} (l : List A) (i : ℕ) (a : A) (e : take i l ≡ replicate i a) where
@@ -34,7 +32,7 @@ zero-in : (j : ℕ) → j < 96 → stemIn (replicate 480 (pos 0)) j ≡ zeroStem
 unfolding stemIn
 zero-in j q =
     let z : (k : ℕ) → k < 480 → getD (replicate 480 (pos 0)) k (pos 0) ≡ pos 0 =
-    λ k p. getD-replicate 480 k (pos 0) (pos 0) p in
+    λ k. getD-replicate 480 k (pos 0) (pos 0) in
     rw (
       z j (omega arith),
       z (96 + j) (omega arith),

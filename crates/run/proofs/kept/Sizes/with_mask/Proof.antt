@@ -74,12 +74,14 @@ module _ (c : tie.After-loop Inv-loop μ-loop) where
   abbrev given : HintMask
   given = l .before .args .t3
 
+  -- all bytes are those given
   all-given : given ≡ ofBytes (l .loop .mask)
   all-given =
       let n = twelve (l .before) in
       ap ofBytes (sym (take-all (l .loop .i) (given .bytes) (omega arith)) ∙ sym (l .loop .inv .1 .1 .0) ∙
       take-all (l .loop .i) (l .loop .mask) (omega arith))
 
+  -- the answer is that for all bytes
   answered : sameBytes (given .bytes) (l .before .args .mask .now) ≡ l .loop .same
   unfolding sameBytes
   answered =
