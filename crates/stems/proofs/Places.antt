@@ -19,7 +19,7 @@ use Rattle.stems.specs.declared.edge.Kind.the-variants.{Absent, GhostBot
 use Rattle.stems.specs.Edge.{noHint}
 use Rattle.stems.specs.Lists.{tabulate, kindAt, kindIn, kindNumber, mark, tagOf, heightIn, deviceIn, scaleIn}
 use Rattle.stems.specs.Lists.{decoded, hintIn, edgesIn, held, Whole, setLine, setLines, setTags, Put, Copied}
-use Rattle.stems.specs.Lists.{stemIn, stemsIn, stemBy, useMark, setStem}
+use Rattle.stems.specs.Lists.{stemIn, stemsIn, stemBy, markIf, setStem}
 
 -- an edge with the device height and the scale of another
 abbrev pub onLine : Hint → Hint → Hint
@@ -57,7 +57,7 @@ module _ {A : Type 0} where
   getD-tabulate f (suc n) zero d h = refl
   getD-tabulate f (suc n) (suc i) d h = getD-tabulate (λ (j : ℕ). f (suc j)) n i d (omega arith)
 
-  -- two functions that differ at one place alone
+  -- two functions that differ at one place alone, there
   changed-at : (f g : ℕ → A) (n i : ℕ) (x d : A) (u : Bool) (j : ℕ) → eqb j i ≡ u → i < n → j < n → g i ≡ x →
       ((k : ℕ) → k < n → (k ≡ i → ⊥) → g k ≡ f k) → g j ≡ getD (set (tabulate f n) i x) j d
   changed-at f g n i x d true j e p q h o =
@@ -66,7 +66,8 @@ module _ {A : Type 0} where
       o j q (eqb-false j i e) ∙
       sym (getD-set-other (tabulate f n) i j x d (eqb-false j i e) ∙ getD-tabulate f n j d q)
 
-  changed : (f g : ℕ → A) (n i : ℕ) (x d : A) → i < n → g i ≡ x →
+  -- and as lists
+  pub changed : (f g : ℕ → A) (n i : ℕ) (x d : A) → i < n → g i ≡ x →
       ((k : ℕ) → k < n → (k ≡ i → ⊥) → g k ≡ f k) → tabulate g n ≡ set (tabulate f n) i x
   changed f g n i x d p h o =
       let l = length-tabulate g n in
@@ -277,68 +278,71 @@ pub stem-in : (l : List ℤ) (n i : ℕ) (d : StemHint) → i < 96 → getD (ste
 unfolding stemsIn
 stem-in l n i d p = getD-tabulate (stemIn l) 96 i d p
 
--- five numbers, in five segments
-module _ (l : List ℤ) (i : ℕ) (a b c d e : ℤ) where
+-- five numbers, in five segments of one width
+module _ (w : ℕ) (l : List ℤ) (i : ℕ) (a b c d e : ℤ) where
   abbrev l₁ : List ℤ
   l₁ = set l i a
 
   abbrev l₂ : List ℤ
-  l₂ = set l₁ (96 + i) b
+  l₂ = set l₁ (w + i) b
 
   abbrev l₃ : List ℤ
-  l₃ = set l₂ (192 + i) c
+  l₃ = set l₂ (w + w + i) c
 
   abbrev l₄ : List ℤ
-  l₄ = set l₃ (288 + i) d
+  l₄ = set l₃ (w + w + w + i) d
 
-  abbrev l₅ : List ℤ
-  l₅ = set l₄ (384 + i) e
+  abbrev pub five : List ℤ
+  five = set l₄ (w + w + w + w + i) e
 
-  five-other : (k : ℕ) → (k ≡ i → ⊥) → (k ≡ 96 + i → ⊥) → (k ≡ 192 + i → ⊥) → (k ≡ 288 + i → ⊥) →
-      (k ≡ 384 + i → ⊥) → getD l₅ k (pos 0) ≡ getD l k (pos 0)
+  pub five-other : (k : ℕ) → (k ≡ i → ⊥) → (k ≡ w + i → ⊥) → (k ≡ w + w + i → ⊥) → (k ≡ w + w + w + i → ⊥) →
+      (k ≡ w + w + w + w + i → ⊥) → getD five k (pos 0) ≡ getD l k (pos 0)
   five-other k n₀ n₁ n₂ n₃ n₄ =
-      getD-set-other l₄ (384 + i) k e (pos 0) n₄ ∙ getD-set-other l₃ (288 + i) k d (pos 0) n₃ ∙
-      getD-set-other l₂ (192 + i) k c (pos 0) n₂ ∙ getD-set-other l₁ (96 + i) k b (pos 0) n₁ ∙
+      getD-set-other l₄ (w + w + w + w + i) k e (pos 0) n₄ ∙ getD-set-other l₃ (w + w + w + i) k d (pos 0) n₃ ∙
+      getD-set-other l₂ (w + w + i) k c (pos 0) n₂ ∙ getD-set-other l₁ (w + i) k b (pos 0) n₁ ∙
       getD-set-other l i k a (pos 0) n₀
 
-  module _ (long : length l ≡ 480) (p : i < 96) where
-    five-0 : getD l₅ i (pos 0) ≡ a
+  pub five-long : length five ≡ length l
+  five-long = simp length-set
+
+  module _ (long : length l ≡ w + w + w + w + w) (p : i < w) where
+    pub five-0 : getD five i (pos 0) ≡ a
     five-0 =
-        getD-set-other l₄ (384 + i) i e (pos 0) (λ e. omega arith) ∙
-        getD-set-other l₃ (288 + i) i d (pos 0) (λ e. omega arith) ∙
-        getD-set-other l₂ (192 + i) i c (pos 0) (λ e. omega arith) ∙
-        getD-set-other l₁ (96 + i) i b (pos 0) (λ e. omega arith) ∙
+        getD-set-other l₄ (w + w + w + w + i) i e (pos 0) (λ e. omega arith) ∙
+        getD-set-other l₃ (w + w + w + i) i d (pos 0) (λ e. omega arith) ∙
+        getD-set-other l₂ (w + w + i) i c (pos 0) (λ e. omega arith) ∙
+        getD-set-other l₁ (w + i) i b (pos 0) (λ e. omega arith) ∙
         getD-set-same l i a (pos 0) (omega arith)
 
-    five-1 : getD l₅ (96 + i) (pos 0) ≡ b
+    pub five-1 : getD five (w + i) (pos 0) ≡ b
     five-1 =
-        getD-set-other l₄ (384 + i) (96 + i) e (pos 0) (λ e. omega arith) ∙
-        getD-set-other l₃ (288 + i) (96 + i) d (pos 0) (λ e. omega arith) ∙
-        getD-set-other l₂ (192 + i) (96 + i) c (pos 0) (λ e. omega arith) ∙
-        getD-set-same l₁ (96 + i) b (pos 0) (simp length-set (omega arith))
+        getD-set-other l₄ (w + w + w + w + i) (w + i) e (pos 0) (λ e. omega arith) ∙
+        getD-set-other l₃ (w + w + w + i) (w + i) d (pos 0) (λ e. omega arith) ∙
+        getD-set-other l₂ (w + w + i) (w + i) c (pos 0) (λ e. omega arith) ∙
+        getD-set-same l₁ (w + i) b (pos 0) (simp length-set (omega arith))
 
-    five-2 : getD l₅ (192 + i) (pos 0) ≡ c
+    pub five-2 : getD five (w + w + i) (pos 0) ≡ c
     five-2 =
-        getD-set-other l₄ (384 + i) (192 + i) e (pos 0) (λ e. omega arith) ∙
-        getD-set-other l₃ (288 + i) (192 + i) d (pos 0) (λ e. omega arith) ∙
-        getD-set-same l₂ (192 + i) c (pos 0) (simp length-set (omega arith))
+        getD-set-other l₄ (w + w + w + w + i) (w + w + i) e (pos 0) (λ e. omega arith) ∙
+        getD-set-other l₃ (w + w + w + i) (w + w + i) d (pos 0) (λ e. omega arith) ∙
+        getD-set-same l₂ (w + w + i) c (pos 0) (simp length-set (omega arith))
 
-    five-3 : getD l₅ (288 + i) (pos 0) ≡ d
+    pub five-3 : getD five (w + w + w + i) (pos 0) ≡ d
     five-3 =
-        getD-set-other l₄ (384 + i) (288 + i) e (pos 0) (λ e. omega arith) ∙
-        getD-set-same l₃ (288 + i) d (pos 0) (simp length-set (omega arith))
+        getD-set-other l₄ (w + w + w + w + i) (w + w + w + i) e (pos 0) (λ e. omega arith) ∙
+        getD-set-same l₃ (w + w + w + i) d (pos 0) (simp length-set (omega arith))
 
-    five-4 : getD l₅ (384 + i) (pos 0) ≡ e
-    five-4 = getD-set-same l₄ (384 + i) e (pos 0) (simp length-set (omega arith))
+    pub five-4 : getD five (w + w + w + w + i) (pos 0) ≡ e
+    five-4 = getD-set-same l₄ (w + w + w + w + i) e (pos 0) (simp length-set (omega arith))
 
 -- a mark says what was put into it
-used-is : (b : Bool) → lessF ZERO (fromBits (useMark b .bits)) ≡ b
-used-is true = refl
-used-is false = refl
+pub mark-is : (b : Bool) → lessF ZERO (fromBits (markIf b .bits)) ≡ b
+mark-is true = refl
+mark-is false = refl
 
 module _ (l : List ℤ) (long : length l ≡ 480) (i : ℕ) (p : i < 96) (st : StemHint) where
   abbrev mark-of : ℤ
-  mark-of = useMark (st .«is_used») .bits
+  mark-of = markIf (st .«is_used») .bits
 
   pub set-long : length (setStem l i st) ≡ 480
   unfolding setStem
@@ -348,18 +352,18 @@ module _ (l : List ℤ) (long : length l ≡ 480) (i : ℕ) (p : i < 96) (st : S
   unfolding stemIn setStem
   stem-here =
       rw (
-        five-0 l i mark-of (st .min .bits) (st .max .bits) (st .«ds_min» .bits) (st .«ds_max» .bits) long p,
-        five-1 l i mark-of (st .min .bits) (st .max .bits) (st .«ds_min» .bits) (st .«ds_max» .bits) long p,
-        five-2 l i mark-of (st .min .bits) (st .max .bits) (st .«ds_min» .bits) (st .«ds_max» .bits) long p,
-        five-3 l i mark-of (st .min .bits) (st .max .bits) (st .«ds_min» .bits) (st .«ds_max» .bits) long p,
-        five-4 l i mark-of (st .min .bits) (st .max .bits) (st .«ds_min» .bits) (st .«ds_max» .bits) long p,
-        used-is (st .«is_used»),
+        five-0 96 l i mark-of (st .min .bits) (st .max .bits) (st .«ds_min» .bits) (st .«ds_max» .bits) long p,
+        five-1 96 l i mark-of (st .min .bits) (st .max .bits) (st .«ds_min» .bits) (st .«ds_max» .bits) long p,
+        five-2 96 l i mark-of (st .min .bits) (st .max .bits) (st .«ds_min» .bits) (st .«ds_max» .bits) long p,
+        five-3 96 l i mark-of (st .min .bits) (st .max .bits) (st .«ds_min» .bits) (st .«ds_max» .bits) long p,
+        five-4 96 l i mark-of (st .min .bits) (st .max .bits) (st .«ds_min» .bits) (st .«ds_max» .bits) long p,
+        mark-is (st .«is_used»),
       )
 
   pub stem-there : (j : ℕ) → j < 96 → (j ≡ i → ⊥) → stemIn (setStem l i st) j ≡ stemIn l j
   unfolding stemIn setStem
   stem-there j q n =
-      let o = five-other l i mark-of (st .min .bits) (st .max .bits) (st .«ds_min» .bits) (st .«ds_max» .bits) in
+      let o = five-other 96 l i mark-of (st .min .bits) (st .max .bits) (st .«ds_min» .bits) (st .«ds_max» .bits) in
       rw (
         o j n (λ e. omega arith) (λ e. omega arith) (λ e. omega arith) (λ e. omega arith),
         o (96 + j) (λ e. omega arith) (λ e. n (omega arith)) (λ e. omega arith) (λ e. omega arith) (λ e. omega arith),

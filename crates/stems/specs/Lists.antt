@@ -140,16 +140,17 @@ pub record ListedStems (ss : Stems) (ns : List ℤ) : Type 0 where
   pub long : length ns ≡ 480
   pub stems : stemsIn ns (ss .count) ≡ ss
 
-abbrev pub useMark : Bool → Fixed
-useMark true = ONE
-useMark false = ZERO
+-- the number that stands for a truth
+abbrev pub markIf : Bool → Fixed
+markIf true = ONE
+markIf false = ZERO
 
 -- a stem at place i
 unfoldable pub setStem : List ℤ → ℕ → StemHint → List ℤ
 setStem ns i s =
     set
     (set
-    (set (set (set ns i (useMark (s .«is_used») .bits)) (96 + i) (s .min .bits)) (192 + i) (s .max .bits))
+    (set (set (set ns i (markIf (s .«is_used») .bits)) (96 + i) (s .min .bits)) (192 + i) (s .max .bits))
     (288 + i)
     (s .«ds_min» .bits))
     (384 + i)

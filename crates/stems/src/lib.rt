@@ -18,6 +18,7 @@ pub use lists::copy_edge;
 pub use lists::device_at;
 pub use lists::edge_at;
 pub use lists::height_at;
+pub use lists::mark_if;
 pub use lists::put_edge;
 pub use lists::put_line;
 pub use lists::put_stem;

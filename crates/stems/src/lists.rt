@@ -16,7 +16,7 @@ ghost use Prim.Native.Nat.{_+_, _<_, _≤_};
 ghost use lib.ListN.{length, set};
 ghost use Rattle.stems.specs.Edge.{maxHints};
 ghost use Rattle.stems.specs.Lists.{kindIn, kindNumber, mark, tagOf, heightIn, deviceIn, scaleIn, hintIn, setLine};
-ghost use Rattle.stems.specs.Lists.{Put, Copied, stemIn, stemsIn, useMark, setStem, ListedStems};
+ghost use Rattle.stems.specs.Lists.{Put, Copied, stemIn, stemsIn, markIf, setStem, ListedStems};
 
 // How many numbers the lines of a map are, its tags, and stems.
 pub const LINES: usize = 288;
@@ -203,11 +203,11 @@ pub fn stem_at(stems: &[i32; STEM_NUMBERS], i: usize) -> StemHint
     }
 }
 
-// What stands for a stem that is used, and for one that is not.
-fn use_mark(is_used: bool) -> Fixed
-    ensures { λ r. ⌜ r ≡ useMark «is_used» ⌝ }
+// The number that stands for a truth.
+pub fn mark_if(is: bool) -> Fixed
+    ensures { λ r. ⌜ r ≡ markIf is ⌝ }
 {
-    if is_used {
+    if is {
         return Fixed::ONE;
     }
     Fixed::ZERO
@@ -227,7 +227,7 @@ pub fn put_stem(stems: &mut [i32; STEM_NUMBERS], i: usize, stem: StemHint)
     requires { ⌜ i < maxHints ⌝ }
     ensures { λ r. ⌜ now (stems .exit) ≡ setStem (now (stems .entry)) i stem ⌝ }
 {
-    put_number(stems, i, use_mark(stem.is_used));
+    put_number(stems, i, mark_if(stem.is_used));
     put_number(stems, MINIMA + i, stem.min);
     put_number(stems, MAXIMA + i, stem.max);
     put_number(stems, DEVICE_MINIMA + i, stem.ds_min);

@@ -1,35 +1,32 @@
 -- Laws of the zone that holds an edge, and of captured edges. Assumes nothing.
 use mathlib.Core.Path.{_≡_, refl, sym, _∙_}
 use mathlib.Core.Bool.{Bool, true, false, cond, true≢false}
+use mathlib.Core.List.{List}
 use Prim.Native.Nat.{ℕ, _+_, _≤_, _<_}
 use lib.ListN.{length, take, drop, getD}
 use Rattle.fixed.specs.declared.Fixed.{Fixed}
 use Rattle.fixed.specs.Fixed.{addF}
 use Rattle.stems.specs.declared.edge.Hint.{Hint}
 use Rattle.stems.specs.Edge.{isValid, withDevice, lockedAt}
-use Rattle.zones.specs.declared.state.HintState.{HintState}
-use Rattle.zones.specs.declared.capture.Held.{Held}
+use Rattle.zones.specs.declared.blues.BlueZone.{BlueZone}
 use Rattle.zones.specs.declared.capture.Held.the-variants.{By, Free}
 use Rattle.zones.specs.Zones.{noZone}
 use Rattle.zones.specs.Capture.{holds, firstHolding, lifted}
 use Rattle.zones.proofs.Taken.{taken-more, taken-ends}
 
--- the first of a state's first n zones, from zone i on, that holds
-abbrev pub holderFrom : HintState → ℕ → Hint → Hint → ℕ → Held
-holderFrom st n b t i = firstHolding (st .«blue_fuzz») b t (drop i (take n (st .zones)))
-
-module _ (st : HintState) (n : ℕ) (fits : n ≤ length (st .zones)) (b t : Hint) (i : ℕ) where
+-- the first of n zones that holds, from zone i on
+module _ (fuzz : Fixed) (b t : Hint) (zs : List BlueZone) (n : ℕ) (fits : n ≤ length zs) (i : ℕ) where
   -- it is zone i where that holds, and is among the later ones where not
-  pub holder-at : i < n →
-      let z = getD (st .zones) i noZone in
-      holderFrom st n b t i ≡ cond (holds (st .«blue_fuzz») b t z) (By z) (holderFrom st n b t (i + 1))
+  pub holder-at : i < n → let z = getD zs i noZone in
+      firstHolding fuzz b t (drop i (take n zs)) ≡
+      cond (holds fuzz b t z) (By z) (firstHolding fuzz b t (drop (i + 1) (take n zs)))
   unfolding firstHolding
-  holder-at l = rw (taken-more n (st .zones) fits i noZone l)
+  holder-at l = rw (taken-more n zs fits i noZone l)
 
   -- no zone is left
-  pub holder-ends : n ≤ i → holderFrom st n b t i ≡ Free
+  pub holder-ends : n ≤ i → firstHolding fuzz b t (drop i (take n zs)) ≡ Free
   unfolding firstHolding
-  holder-ends l = rw (taken-ends n (st .zones) fits i l)
+  holder-ends l = rw (taken-ends n zs fits i l)
 
 -- what a captured edge keeps, and that it is locked where it is valid
 pub record Keeps (e r : Hint) : Type 0 where

@@ -1,5 +1,6 @@
 pub mod Taken
 pub mod Keep
 pub mod Family
+pub mod Listing
 pub mod Holding
 pub mod Unique

@@ -1,3 +1,4 @@
 pub mod Zones
 pub mod State
 pub mod Capture
+pub mod Numbers

@@ -1,12 +1,17 @@
 // The capture of a stem's edges by the zones.
 use crate::blues::BlueZone;
 use crate::blues::MAX_BLUE_ZONES;
+use crate::numbers::ZONE_NUMBERS;
+use crate::numbers::zone_at;
 use crate::state::HintState;
 use fixed::Fixed;
 use fixed::least;
 use stems::Hint;
 ghost use mathlib.Core.Path.{_≡_};
+ghost use Prim.Native.Nat.{_≤_};
 ghost use lib.ListN.{take};
+ghost use Rattle.zones.specs.Zones.{maxZones};
+ghost use Rattle.zones.specs.Numbers.{zonesIn, ListedZones};
 ghost use Rattle.zones.specs.Capture.{within, holds, firstHolding, bottomGoal, topGoal, captureMove, lifted};
 ghost use Rattle.zones.specs.Capture.{captureOf};
 
@@ -60,23 +65,23 @@ fn lift(edge: Hint, by: Fixed) -> Hint
     edge
 }
 
-impl HintState {
-    fn holder(self, bottom: Hint, top: Hint) -> Held
-        ensures { λ r. ⌜ r ≡ firstHolding (self .«blue_fuzz») bottom top (take (self .«zone_count») (self .zones)) ⌝ }
-    {
-        let count = least(self.zone_count, MAX_BLUE_ZONES);
-        let fuzz = self.blue_fuzz;
-        let mut i: usize = 0;
-        while i < count {
-            let zone = self.zones[i];
-            if zone.holds(fuzz, bottom, top) {
-                return Held::By(zone);
-            }
-            i += 1;
+// The first of so many zones that holds one of the edges.
+fn holder(zones: &[i32; ZONE_NUMBERS], count: usize, fuzz: Fixed, bottom: Hint, top: Hint) -> Held
+    requires { ⌜ count ≤ maxZones ⌝ }
+    ensures { λ r. ⌜ r ≡ firstHolding fuzz bottom top (take count (zonesIn (now (zones .entry)))) ⌝ }
+{
+    let mut i: usize = 0;
+    while i < count {
+        let zone = zone_at(zones, i);
+        if zone.holds(fuzz, bottom, top) {
+            return Held::By(zone);
         }
-        Held::Free
+        i += 1;
     }
+    Held::Free
+}
 
+impl HintState {
     // From `capture`: where a bottom edge goes in a bottom zone. An overshoot that is kept and deep
     // enough shows by a whole pixel at least.
     fn bottom_goal(self, zone: BlueZone, edge: Hint) -> Fixed
@@ -119,11 +124,13 @@ impl HintState {
         self.top_goal(zone, top).sub(top.ds_coord)
     }
 
-    // Ports `HintState::capture`.
-    pub fn capture(self, bottom: Hint, top: Hint) -> Captured
+    // Ports `HintState::capture`, by a list that holds the zones.
+    pub fn capture_by(self, zones: &[i32; ZONE_NUMBERS], bottom: Hint, top: Hint) -> Captured
+        requires { ⌜ ListedZones self (now zones) ⌝ }
         ensures { λ r. ⌜ r ≡ captureOf self bottom top ⌝ }
     {
-        let held = self.holder(bottom, top);
+        let count = least(self.zone_count, MAX_BLUE_ZONES);
+        let held = holder(zones, count, self.blue_fuzz, bottom, top);
         match held {
             Held::By(zone) => {
                 let by = self.move_by(zone, bottom, top);
@@ -139,5 +146,14 @@ impl HintState {
                 top,
             },
         }
+    }
+
+    // The same by the zones that it has.
+    pub fn capture(self, bottom: Hint, top: Hint) -> Captured
+        ensures { λ r. ⌜ r ≡ captureOf self bottom top ⌝ }
+    {
+        let mut zones = [0i32; ZONE_NUMBERS];
+        self.list(&mut zones);
+        self.capture_by(&zones, bottom, top)
     }
 }

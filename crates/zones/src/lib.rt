@@ -1,6 +1,7 @@
 // Blue zones, and the capture of a stem's edges by them (01, "Zones").
 mod blues;
 mod capture;
+mod numbers;
 mod state;
 
 pub use blues::Blue;
@@ -13,5 +14,6 @@ pub use blues::Nearest;
 pub use blues::Zones;
 pub use capture::Captured;
 pub use capture::Held;
+pub use numbers::ZONE_NUMBERS;
 pub use state::HintParams;
 pub use state::HintState;

@@ -4,8 +4,8 @@ use borrow.Author.Needs.{needs}
 use Rattle.stems.proofs.lists.put_stem.Statement.{statement}
 use Rattle.stems.proofs.lists.put_stem.Tie as tie
 
-use-mark-requires : tie.Need-use-mark-requires
-use-mark-requires c κs = search needs
+mark-if-requires : tie.Need-mark-if-requires
+mark-if-requires c κs = search needs
 
 put-number-requires : tie.Need-put-number-requires
 put-number-requires c κs = search needs
@@ -47,14 +47,14 @@ returns c =
       e .put-number3 .ensures,
       f .put-number2 .ensures,
       g .put-number .ensures,
-      g .before .use-mark .ensures,
+      g .before .mark-if .ensures,
     )
 
 pub put-stem-spec : {M : Type 1} → statement M
 put-stem-spec =
     tie.close
     (tie.spec
-    use-mark-requires
+    mark-if-requires
     put-number-requires
     add-put-number
     put-number-requires-2
