@@ -12,8 +12,10 @@ use stems::STEM_NUMBERS;
 use stems::Stems;
 use stems::TAGS;
 use zones::HintState;
+use zones::ZONE_NUMBERS;
 ghost use mathlib.Core.Path.{_≡_};
 ghost use Rattle.stems.specs.Lists.{Whole, stemsIn};
+ghost use Rattle.zones.specs.Numbers.{ListedZones};
 ghost use Rattle.build.specs.Build.{initialOf};
 ghost use Rattle.build.specs.Made.{MadeInitial};
 
@@ -23,16 +25,17 @@ pub fn make_initial(
     lines: &mut [i32; LINES],
     tags: &mut [u8; TAGS],
     state: HintState,
+    zones: &[i32; ZONE_NUMBERS],
     stems: &[i32; STEM_NUMBERS],
     count: usize,
 ) -> usize
-    requires { ⌜ Whole (now lines) (now tags) ⌝ }
+    requires { ⌜ Whole (now lines) (now tags) × ListedZones state (now zones) ⌝ }
     ensures { λ r. ⌜ MadeInitial state (stemsIn (now (stems .entry)) count) r (now (lines .exit)) (now (tags .exit)) ⌝ }
 {
     let boxed = put_em_box(lines, tags, state.do_em_box_hints, state.scale);
     let mut rest = [255u8; HINT_MASK_SIZE];
     let declared = least(count, MAX_HINTS);
-    let placed = place_locked(lines, tags, boxed, &mut rest, state, stems, declared);
+    let placed = place_locked(lines, tags, boxed, &mut rest, state, zones, stems, declared);
     let len = put_baseline(lines, tags, placed, state.scale);
     adjust(lines, tags, len);
     len
@@ -44,8 +47,10 @@ pub fn build_initial(state: HintState, stems: Stems) -> HintMap
 {
     let mut numbers = [0i32; STEM_NUMBERS];
     stems.list(&mut numbers);
+    let mut zones = [0i32; ZONE_NUMBERS];
+    state.list(&mut zones);
     let mut lines = [0i32; LINES];
     let mut tags = [0u8; TAGS];
-    let len = make_initial(&mut lines, &mut tags, state, &numbers, stems.count);
+    let len = make_initial(&mut lines, &mut tags, state, &zones, &numbers, stems.count);
     HintMap::from_lists(&lines, &tags, len, state.scale).validate()
 }

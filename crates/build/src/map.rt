@@ -14,7 +14,9 @@ use stems::STEM_NUMBERS;
 use stems::Stems;
 use stems::TAGS;
 use zones::HintState;
+use zones::ZONE_NUMBERS;
 ghost use mathlib.Core.Path.{_≡_};
+ghost use Rattle.zones.specs.Numbers.{ListedZones};
 ghost use Rattle.build.specs.Build.{builtOf};
 ghost use Rattle.build.specs.Made.{Makable, MadeMap};
 
@@ -31,6 +33,7 @@ pub fn make_map(
     lines: &mut [i32; LINES],
     tags: &mut [u8; TAGS],
     state: HintState,
+    zones: &[i32; ZONE_NUMBERS],
     mask: HintMask,
     stems: &mut [i32; STEM_NUMBERS],
     count: usize,
@@ -38,14 +41,14 @@ pub fn make_map(
     size: usize,
     base: Fixed,
 ) -> usize
-    requires { ⌜ Makable (now lines) (now tags) (now stems) size ⌝ }
+    requires { ⌜ Makable (now lines) (now tags) (now stems) size × ListedZones state (now zones) ⌝ }
     ensures { λ r. ⌜ MadeMap state mask (now (stems .entry)) count (now (initial .entry)) size base r
         (now (lines .exit)) (now (tags .exit)) (now (stems .exit)) ⌝ }
 {
     let boxed = put_em_box(lines, tags, state.do_em_box_hints, state.scale);
     let mut rest = mask.bytes;
     let declared = least(count, MAX_HINTS);
-    let locked = place_locked(lines, tags, boxed, &mut rest, state, stems, declared);
+    let locked = place_locked(lines, tags, boxed, &mut rest, state, zones, stems, declared);
     let scale = state.scale;
     let len = place_free(
         lines,
@@ -70,6 +73,8 @@ pub fn build_map(state: HintState, mask: HintMask, stems: Stems, initial: HintMa
 {
     let mut numbers = [0i32; STEM_NUMBERS];
     stems.list(&mut numbers);
+    let mut zones = [0i32; ZONE_NUMBERS];
+    state.list(&mut zones);
     let mut base = [0i32; LINES];
     let mut base_tags = [0u8; TAGS];
     initial.list(&mut base, &mut base_tags);
@@ -80,6 +85,7 @@ pub fn build_map(state: HintState, mask: HintMask, stems: Stems, initial: HintMa
         &mut lines,
         &mut tags,
         state,
+        &zones,
         mask,
         &mut numbers,
         stems.count,

@@ -14,16 +14,19 @@ use stems::is_active;
 use stems::stem_at;
 use zones::Captured;
 use zones::HintState;
+use zones::ZONE_NUMBERS;
 ghost use mathlib.Core.Path.{_≡_};
 ghost use Prim.Native.Nat.{_≤_};
 ghost use Rattle.stems.specs.Edge.{maxHints};
 ghost use Rattle.stems.specs.Lists.{stemsIn};
+ghost use Rattle.zones.specs.Numbers.{ListedZones};
 ghost use Rattle.hintmap.specs.Lent.{Lent};
 ghost use Rattle.build.specs.Place.{preparedOf};
 ghost use Rattle.build.specs.Made.{Locked, Freed};
 
 // From `build`: a stem's edges, and whether they are locked or captured.
-fn prepared(state: HintState, stem: StemHint, index: u8) -> Captured
+fn prepared(state: HintState, zones: &[i32; ZONE_NUMBERS], stem: StemHint, index: u8) -> Captured
+    requires { ⌜ ListedZones state (now zones) ⌝ }
     ensures { λ r. ⌜ r ≡ preparedOf state stem index ⌝ }
 {
     let bottom = Hint::setup(stem, index, state.scale, Side::Bottom);
@@ -42,7 +45,7 @@ fn prepared(state: HintState, stem: StemHint, index: u8) -> Captured
             top,
         };
     }
-    state.capture(bottom, top)
+    state.capture_by(zones, bottom, top)
 }
 
 // From `build`: the first round over the stems. An active stem that is locked or captured is put in,
@@ -53,10 +56,11 @@ pub(crate) fn place_locked(
     start: usize,
     rest: &mut [u8; HINT_MASK_SIZE],
     state: HintState,
+    zones: &[i32; ZONE_NUMBERS],
     stems: &[i32; STEM_NUMBERS],
     count: usize,
 ) -> usize
-    requires { ⌜ Lent (now lines) (now tags) start × (count ≤ maxHints) ⌝ }
+    requires { ⌜ Lent (now lines) (now tags) start × ((count ≤ maxHints) × ListedZones state (now zones)) ⌝ }
     ensures { λ r. ⌜ Locked state (stemsIn (now (stems .entry)) count) (now (lines .entry)) (now (tags .entry)) start
         (now (rest .entry)) r (now (lines .exit)) (now (tags .exit)) (now (rest .exit)) ⌝ }
 {
@@ -66,7 +70,7 @@ pub(crate) fn place_locked(
             continue;
         }
         let stem = stem_at(stems, i);
-        let edges = prepared(state, stem, i as u8);
+        let edges = prepared(state, zones, stem, i as u8);
         if !edges.captured {
             continue;
         }

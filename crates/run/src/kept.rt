@@ -12,12 +12,14 @@ use stems::StemHint;
 use stems::TAGS;
 use stems::put_stem;
 use zones::HintState;
+use zones::ZONE_NUMBERS;
 ghost use mathlib.Core.Path.{_≡_};
 ghost use Prim.Native.Nat.{_≤_};
 ghost use lib.ListN.{length};
 ghost use Rattle.stems.specs.Edge.{maxHints};
 ghost use Rattle.stems.specs.Mask.{maskSize};
 ghost use Rattle.stems.specs.Lists.{Whole};
+ghost use Rattle.zones.specs.Numbers.{ListedZones};
 ghost use Rattle.run.specs.Kept.{noSizes, Stemmed, Masked, Cleared, Based, Buildable, Countered};
 ghost use Rattle.run.specs.Kept.{Mappable, Readied};
 
@@ -110,16 +112,17 @@ impl Sizes {
         initial: &mut [i32; LINES],
         tags: &mut [u8; TAGS],
         state: HintState,
+        zones: &[i32; ZONE_NUMBERS],
         stems: &[i32; STEM_NUMBERS],
     ) -> Sizes
-        requires { ⌜ Whole (now initial) (now tags) × (self .initial ≤ maxHints) ⌝ }
+        requires { ⌜ Whole (now initial) (now tags) × ((self .initial ≤ maxHints) × ListedZones state (now zones)) ⌝ }
         ensures { λ r. ⌜ Based state self (now (initial .entry)) (now (stems .entry)) r (now (initial .exit))
             (now (tags .exit)) ⌝ }
     {
         if self.based {
             return self;
         }
-        let len = make_initial(initial, tags, state, stems, self.stems);
+        let len = make_initial(initial, tags, state, zones, stems, self.stems);
         let mut sizes = self;
         sizes.initial = len;
         sizes.based = true;
@@ -132,19 +135,21 @@ impl Sizes {
         initial: &mut [i32; LINES],
         tags: &mut [u8; TAGS],
         state: HintState,
+        zones: &[i32; ZONE_NUMBERS],
         mask: HintMask,
         stems: &mut [i32; STEM_NUMBERS],
     ) -> Sizes
-        requires { ⌜ Buildable self (now initial) (now tags) (now stems) ⌝ }
+        requires { ⌜ Buildable self (now initial) (now tags) (now stems) × ListedZones state (now zones) ⌝ }
         ensures { λ r. ⌜ Countered state mask self (now (initial .entry)) (now (stems .entry)) r (now (initial .exit))
             (now (tags .exit)) (now (stems .exit)) ⌝ }
     {
-        let sizes = self.with_initial(initial, tags, state, stems);
+        let sizes = self.with_initial(initial, tags, state, zones, stems);
         let mut thrown = [0i32; LINES];
         make_map(
             &mut thrown,
             tags,
             state,
+            zones,
             mask,
             stems,
             sizes.stems,
@@ -162,19 +167,22 @@ impl Sizes {
         initial: &mut [i32; LINES],
         tags: &mut [u8; TAGS],
         state: HintState,
+        zones: &[i32; ZONE_NUMBERS],
         mask: &[u8; HINT_MASK_SIZE],
         stems: &mut [i32; STEM_NUMBERS],
     ) -> Sizes
-        requires { ⌜ Mappable self (now map) (now initial) (now tags) (now stems) (now mask) ⌝ }
+        requires { ⌜ Mappable self (now map) (now initial) (now tags) (now stems) (now mask) ×
+            ListedZones state (now zones) ⌝ }
         ensures { λ r. ⌜ Readied state self (now (initial .entry)) (now (mask .entry)) (now (stems .entry)) r
             (now (map .exit)) (now (initial .exit)) (now (tags .exit)) (now (stems .exit)) ⌝ }
     {
-        let based = self.with_initial(initial, tags, state, stems);
+        let based = self.with_initial(initial, tags, state, zones, stems);
         let present = HintMask::new(mask);
         let len = make_map(
             map,
             tags,
             state,
+            zones,
             present,
             stems,
             based.stems,

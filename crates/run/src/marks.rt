@@ -8,9 +8,11 @@ use stems::LINES;
 use stems::STEM_NUMBERS;
 use stems::TAGS;
 use zones::HintState;
+use zones::ZONE_NUMBERS;
 ghost use mathlib.Core.Path.{_≡_};
 ghost use Prim.Native.Nat.{_+_, _≤_};
 ghost use lib.ListN.{length, take, drop};
+ghost use Rattle.zones.specs.Numbers.{ListedZones};
 ghost use Rattle.run.specs.Run.{maskAt};
 ghost use Rattle.run.specs.Kept.{Markable, Marked};
 
@@ -38,12 +40,14 @@ pub(crate) fn marked(
     from: usize,
     marking: Marking,
     state: HintState,
+    zones: &[i32; ZONE_NUMBERS],
     mask: &mut [u8; HINT_MASK_SIZE],
     stems: &mut [i32; STEM_NUMBERS],
     initial: &mut [i32; LINES],
     tags: &mut [u8; TAGS],
 ) -> Sizes
-    requires { ⌜ Markable (now script) from marking sizes (now mask) (now stems) (now initial) (now tags) ⌝ }
+    requires { ⌜ Markable (now script) from marking sizes (now mask) (now stems) (now initial) (now tags) ×
+        ListedZones state (now zones) ⌝ }
     ensures { λ r. ⌜ Marked state (now (script .entry)) from marking sizes (now (mask .entry)) (now (stems .entry))
         (now (initial .entry)) r (now (mask .exit)) (now (stems .exit)) (now (initial .exit)) (now (tags .exit)) ⌝ }
 {
@@ -53,7 +57,7 @@ pub(crate) fn marked(
         Marking::Mask { start, len } => sizes.with_mask(mask, mask_at(script, from, start, len)),
         Marking::Counter { start, len } => {
             let given = mask_at(script, from, start, len);
-            sizes.counter(initial, tags, state, given, stems)
+            sizes.counter(initial, tags, state, zones, given, stems)
         }
         Marking::Clear => {
             clear_lists(mask, stems);

@@ -14,6 +14,7 @@ use stems::STEM_NUMBERS;
 use stems::TAGS;
 use words::Answer;
 use zones::HintState;
+use zones::ZONE_NUMBERS;
 ghost use mathlib.Core.Path.{_≡_};
 ghost use Rattle.words.specs.Words.{rawAt};
 ghost use Rattle.commands.specs.Commands.{commandsOf};
@@ -70,6 +71,8 @@ pub fn run(
         (callsOf (now (script .entry)) from (commandsOf first (rawAt (now (part .entry))) n)) (now (out .entry))) r
         (now (out .exit)) ⌝ }
 {
+    let mut zones = [0i32; ZONE_NUMBERS];
+    state.list(&mut zones);
     let mut mask = [255u8; HINT_MASK_SIZE];
     let mut stems = [0i32; STEM_NUMBERS];
     let mut initial = [0i32; LINES];
@@ -94,6 +97,7 @@ pub fn run(
                     from,
                     marking,
                     state,
+                    &zones,
                     &mut mask,
                     &mut stems,
                     &mut initial,
@@ -108,6 +112,7 @@ pub fn run(
                         &mut initial,
                         &mut tags,
                         state,
+                        &zones,
                         &mask,
                         &mut stems,
                     );

@@ -10,7 +10,7 @@ returns : tie.Need-returns
 returns c =
     let f = c .before in
     let m = f .before .before .before in
-    let l = m .before .before .before .before in
+    let l = m .before .before .before .before .before .before .before in
     let a = l .before .before .args in
     c .validate .ensures ∙ ap validMap (f .from-lists .ensures) ∙ m .make-initial .ensures .map ∙
     ap (initialOf (a .state)) (l .list .ensures .stems)
@@ -18,4 +18,5 @@ returns c =
 pub build-initial-spec : {M : Type 1} → statement M
 build-initial-spec =
     tie.close
-    (tie.spec (λ c κs. search needs) (λ c κs. search needs) (λ c κs. search needs) (λ c κs. search needs) returns)
+    (tie.spec (λ c κs. search needs) (λ c κs. search needs) (λ c κs. search needs) (λ c κs. search needs)
+    (λ c κs. search needs) returns)

@@ -21,18 +21,18 @@ returns c =
     let v = c .before .before in
     let f = v .before in
     let m = f .before .before .before in
-    let k = m .before .before .before .before .before in
+    let k = m .before .before .before .before .before .before in
     let i = k .before in
-    let l = i .before .before .before in
+    let l = i .before .before .before .before .before in
     let s = l .before .before in
     let a = s .args in
     both _ _ _ _ (v .validate .ensures ∙ ap validMap (f .from-lists .ensures)) (c .from-list .ensures) ∙
     m .make-map .ensures .built (a .initial) refl
-    (listed-lines (a .initial) _ _ _ (held-long (a .initial) (s .good .1 .1 .1 .0 .1 .1 .0 .1 .0 .1)) (i .list2 .ensures) (k .least .ensures)) ∙
+    (listed-lines (a .initial) _ _ _ (held-long (a .initial) (s .good .1 .1 .1 .0 .1 .1 .0 .1 .0 .1)) (i .list3 .ensures) (k .least .ensures)) ∙
     ap (builtOf (a .state) (a .mask) (a .initial)) (l .list .ensures .stems)
 
 pub build-map-spec : {M : Type 1} → statement M
 build-map-spec =
     tie.close
-    (tie.spec (λ c κs. search needs) (λ c κs. search needs) (λ c κs. search needs) (λ c κs. search needs)
+    (tie.spec (λ c κs. search needs) (λ c κs. search needs) (λ c κs. search needs) (λ c κs. search needs) (λ c κs. search needs)
     (λ c κs. search needs) (λ c κs. search needs) (λ c κs. search needs) returns)

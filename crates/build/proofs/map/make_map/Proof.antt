@@ -1,8 +1,22 @@
 -- `make_map` meets its contract: its parts are the build. Assumes nothing.
 use borrow.Author.Needs.{needs}
+use native.Mathlib.Omega.{arith}
 use Rattle.build.proofs.Making.{map-is}
 use Rattle.build.proofs.map.make_map.Statement.{statement}
 use Rattle.build.proofs.map.make_map.Tie as tie
+
+place-locked-requires : tie.Need-place-locked-requires
+place-locked-requires c κs =
+    let l = c .before .before .before .before in
+    let x = l .before .before in
+    (x .put-em-box .ensures .lent, (omega (arith, l .least .ensures), x .before .before .before .pre .1))
+
+save-all-requires : tie.Need-save-all-requires
+save-all-requires c κs =
+    let d = c .before .before .before in
+    let p = d .before .before .before .before .before .before .before .before .before in
+    let x = p .before .before .before .before .before .before .before in
+    (x .before .before .before .pre .0 .long, d .adjust .ensures .lent .fits)
 
 returns : tie.Need-returns
 returns c =
@@ -19,5 +33,5 @@ returns c =
 pub make-map-spec : {M : Type 1} → statement M
 make-map-spec =
     tie.close
-    (tie.spec (λ c κs. search needs) (λ c κs. search needs) (λ c κs. search needs) (λ c κs. search needs)
-    (λ c κs. search needs) (λ c κs. search needs) returns)
+    (tie.spec (λ c κs. search needs) (λ c κs. search needs) place-locked-requires (λ c κs. search needs)
+    (λ c κs. search needs) save-all-requires returns)

@@ -21,13 +21,13 @@ use Rattle.build.proofs.place.place_locked.Statement.{statement}
 use Rattle.build.proofs.place.place_locked.Tie as tie
 
 abbrev Inv-loop : tie.InvT-loop
-Inv-loop lines₀ tags₀ start rest₀ state stems count len₀ i₀ lines tags rest len i =
+Inv-loop lines₀ tags₀ start rest₀ state zones stems count len₀ i₀ lines tags rest len i =
     Lent lines tags len × ((initial : HintMap) (given : Bool) →
     Left (lockedTurns state initial given) (stemsIn stems count) count
     (placedIn lines₀ tags₀ start (state .scale) rest₀) (placedIn lines tags len (state .scale) rest) i)
 
 abbrev μ-loop : tie.MeasureT-loop
-μ-loop lines₀ tags₀ start rest₀ state stems count len₀ i₀ lines tags rest len i = count - i
+μ-loop lines₀ tags₀ start rest₀ state zones stems count len₀ i₀ lines tags rest len i = count - i
 
 -- ---- the turn of stem i
 module _ (c : tie.In-loop Inv-loop μ-loop) where
@@ -44,11 +44,11 @@ module _ (c : tie.In-loop Inv-loop μ-loop) where
       (begin .args .state .scale) (at .loop .rest)) (at .loop .i) (stemIn (begin .args .stems .now) (at .loop .i)) ≡
       placedIn ls ts n (begin .args .state .scale) rest) →
       Inv-loop (begin .args .lines .now) (begin .args .tags .now) (begin .args .start) (begin .args .rest .now)
-      (begin .args .state) (begin .args .stems .now) (begin .args .count) (begin .args .start) 0 ls ts rest n
+      (begin .args .state) (begin .args .zones .now) (begin .args .stems .now) (begin .args .count) (begin .args .start) 0 ls ts rest n
       (at .loop .i + 1)
   again ls ts rest n l f = (
     l,
-    λ initial given. round-goes (locked-round (begin .args .state) initial given) _ _ (begin .pre .1) _ _ _ _
+    λ initial given. round-goes (locked-round (begin .args .state) initial given) _ _ (begin .pre .1 .0) _ _ _ _
         (search needs) (at .loop .inv .1 initial given) (f initial given),
   )
 
@@ -60,7 +60,7 @@ active c = (omega arith, sym (c .before .is-active .ensures) ∙ not-false _ (c 
 
 loop-holds : tie.Need-loop-holds Inv-loop μ-loop
 loop-holds c =
-    (c .pre .0, λ initial given. round-starts (locked-round (c .args .state) initial given) _ _ (c .pre .1) _)
+    (c .pre .0, λ initial given. round-starts (locked-round (c .args .state) initial given) _ _ (c .pre .1 .0) _)
 
 loop-again : tie.Need-loop-again Inv-loop μ-loop
 loop-again c =
@@ -105,7 +105,7 @@ returns c =
     record {
       lent = at .loop .inv .0;
       placed = λ initial given. round-ends (locked-round (at .before .args .state) initial given) _ _
-          (at .before .pre .1) _ _ (at .loop .i) (search needs) (at .loop .inv .1 initial given);
+          (at .before .pre .1 .0) _ _ (at .loop .i) (search needs) (at .loop .inv .1 initial given);
     }
 
 pub place-locked-spec : {M : Type 1} → statement M

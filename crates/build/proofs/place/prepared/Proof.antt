@@ -37,7 +37,7 @@ returns-3 c =
     let f = c .before in
     let l = f .before .before in
     let e = l .before .before in
-    c .capture .ensures ∙ sym (prepared-by _ _ _ _ _ (e .before .setup .ensures) (e .setup2 .ensures) false false
+    c .capture-by .ensures ∙ sym (prepared-by _ _ _ _ _ (e .before .setup .ensures) (e .setup2 .ensures) false false
     (sym (l .before .is-locked .ensures) ∙ l .if1 .left) (sym (f .before .is-locked2 .ensures) ∙ f .if2 .left))
 
 pub prepared-spec : {M : Type 1} → statement M
