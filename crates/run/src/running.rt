@@ -122,6 +122,7 @@ pub fn run(
                     pen,
                     path,
                     &mut out[next..],
+                    true,
                 );
                 let answer = drawn.answer;
                 let CallAnswer::Wrote(count) = answer else {
