@@ -1,7 +1,7 @@
--- What a walk over a map's lines has found, whatever the tags: where the heights that pass end, and
--- the mapping by the edge there. Assumes nothing.
+-- What a walk or a count over a map's lines has found, whatever the tags: where the heights that pass
+-- end, and the mapping by the edge there. Assumes nothing.
 use mathlib.Core.Path.{_≡_, sym, ap, _∙_}
-use mathlib.Core.Bool.{Bool, true, false, cond}
+use mathlib.Core.Bool.{Bool, true, false, cond, true≢false}
 use mathlib.Core.List.{List}
 use Prim.Native.Nat.{ℕ, _+_, _-_, _≤_, _<_}
 use native.Mathlib.Omega.{arith}
@@ -16,10 +16,14 @@ use Rattle.stems.specs.Edge.{noHint}
 use Rattle.stems.specs.Lists.{heightIn, deviceIn, scaleIn, edgesIn, held}
 use Rattle.stems.proofs.Places.{edges-long, height-of, device-of, scale-of}
 use Rattle.hintmap.specs.Map.{placeAmong, reach, line, lineBy, mapOf}
-use Rattle.hintmap.specs.Lent.{Rises, Reaches, Places}
+use Rattle.hintmap.specs.Lent.{Rises, Rising, Reaches, Places}
 use Rattle.hintmap.proofs.Near.{leading-is}
 use Rattle.hintmap.proofs.Walk.{map-some}
 use Rattle.hintmap.proofs.Lent.{held-length, held-height}
+
+-- nothing is asked of heights that are not known to rise
+pub unknown : (ls : List ℤ) (n : ℕ) → Rising false ls n
+unknown ls n e = absurd (true≢false (sym e))
 
 -- an edge after the first
 behind-first : (es : List Hint) (i : ℕ) → getD (drop 1 es) i noHint ≡ getD es (i + 1) noHint

@@ -1,7 +1,7 @@
 -- A map in lent lists of numbers: the edges that the first places hold, and what is done with them
 -- in the words of the map that they are.
 use mathlib.Core.Path.{_≡_}
-use mathlib.Core.Bool.{false, not}
+use mathlib.Core.Bool.{Bool, true, false, not}
 use mathlib.Core.List.{List, _++_}
 use Prim.Native.Nat.{ℕ, _+_, _-_, _≤_, _<_}
 use lib.IntN.{ℤ}
@@ -25,6 +25,10 @@ mapIn ls ts n s =
 -- the first n character heights never fall
 abbrev pub Rises : List ℤ → ℕ → Type 0
 Rises ls n = (i j : ℕ) → i ≤ j → j < n → heightIn ls i .bits ≤ℤ heightIn ls j .bits
+
+-- where they are known to
+abbrev pub Rising : Bool → List ℤ → ℕ → Type 0
+Rising known ls n = known ≡ true → Rises ls n
 
 -- whole lists, whose first n places hold edges in that order
 pub record Lent (ls : List ℤ) (ts : List ℕ) (n : ℕ) : Type 0 where

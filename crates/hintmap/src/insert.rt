@@ -160,7 +160,7 @@ impl Edges {
         if f.is_locked() {
             return self;
         }
-        self.around(transform(initial, len, base, self.middle()), scale)
+        self.around(transform(initial, len, base, self.middle(), false), scale)
     }
 }
 

@@ -127,6 +127,7 @@ pub fn run(
                     pen,
                     path,
                     &mut out[next..],
+                    true,
                 );
                 let answer = drawn.answer;
                 let CallAnswer::Wrote(count) = answer else {

@@ -1,4 +1,4 @@
--- `transform` meets its contract, by the edge where the walk ends. Assumes nothing.
+-- `transform` meets its contract, by the edge that serves. Assumes nothing.
 use borrow.Author.Needs.{needs}
 use mathlib.Core.Path.{_≡_, sym, ap, _∙_}
 use mathlib.Core.Bool.{true, false}
@@ -18,21 +18,24 @@ returns-2 : tie.Need-returns-2
 returns-2 c =
     λ ts. let l = c .before .before .before .before in
     let r = l .before .before .before .before in
-    let a = r .before .before .args in
-    let t = sym (c .before .before .before .if2 .taken) ∙ l .less .ensures ∙ ap (lessF (a .height)) (l .before .height-at2 .ensures) in
-    let m = served (a .lines .now) ts (a .len) (a .scale) (a .height) (r .reached .result) true (r .before .before .pre)
-    (r .reached .ensures .0) (r .reached .ensures .1) t in
+    let s = r .before .before in
+    let a = s .args in
+    let t = sym (c .before .before .before .if2 .taken) ∙ l .less .ensures ∙
+    ap (lessF (a .height)) (l .before .height-at2 .ensures) in
+    let m = served (a .lines .now) ts (a .len) (a .scale) (a .height) (r .serving .result) true (s .pre .0)
+    (r .serving .ensures .0) (r .serving .ensures .1) t in
     cc
 
 returns-3 : tie.Need-returns-3
 returns-3 c =
     λ ts. let l = c .before .before .before .before .before in
     let r = l .before .before .before .before in
-    let a = r .before .before .args in
+    let s = r .before .before in
+    let a = s .args in
     let t = sym (c .before .before .before .before .if2 .left) ∙ l .less .ensures ∙
     ap (lessF (a .height)) (l .before .height-at2 .ensures) in
-    let m = served (a .lines .now) ts (a .len) (a .scale) (a .height) (r .reached .result) false (r .before .before .pre)
-    (r .reached .ensures .0) (r .reached .ensures .1) t in
+    let m = served (a .lines .now) ts (a .len) (a .scale) (a .height) (r .serving .result) false (s .pre .0)
+    (r .serving .ensures .0) (r .serving .ensures .1) t in
     cc
 
 pub transform-spec : {M : Type 1} → statement M

@@ -3,6 +3,7 @@ use borrow.Author.Needs.{needs}
 use mathlib.Core.Path.{refl}
 use Rattle.hintmap.proofs.Near.{held-long}
 use Rattle.hintmap.proofs.Lent.{listed-lines}
+use Rattle.hintmap.proofs.Found.{unknown}
 use Rattle.hints.proofs.path.draw.Statement.{statement}
 use Rattle.hints.proofs.path.draw.Tie as tie
 
@@ -19,4 +20,5 @@ returns c =
 pub draw-spec : {M : Type 1} → statement M
 draw-spec =
     tie.close
-    (tie.spec (λ c κs. search needs) (λ c κs. search needs) (λ c κs. search needs) (λ c. search needs) returns)
+    (tie.spec (λ c κs. search needs) (λ c κs. search needs) (λ c κs. search (needs, unknown)) (λ c. search needs)
+    returns)

@@ -192,7 +192,9 @@ mul-draw-by-lines c =
     record { fits = omega (arith, room l, within c, l .loop .inv .goes .stands .along .same) }
 
 draw-by-lines-requires : tie.Need-draw-by-lines-requires Inv-loop μ-loop
-draw-by-lines-requires c κs = draw-turn (c .before .before .before .before) .loop .inv .kept .map .fits
+draw-by-lines-requires c κs =
+    let k = draw-turn (c .before .before .before .before) .loop .inv .kept .map in
+    (k .fits, λ e. k .order)
 
 add-t43 : tie.Need-add-t43 Inv-loop μ-loop
 add-t43 c =

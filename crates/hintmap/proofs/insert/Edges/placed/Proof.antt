@@ -10,6 +10,7 @@ use Rattle.stems.specs.Lists.{held}
 use Rattle.hintmap.specs.declared.insert.Edges.{Edges}
 use Rattle.hintmap.specs.Map.{mapOf}
 use Rattle.hintmap.specs.Insert.{firstEdge, around, again, placedBy}
+use Rattle.hintmap.proofs.Found.{unknown}
 use Rattle.hintmap.proofs.insert.Edges.placed.Statement.{statement}
 use Rattle.hintmap.proofs.insert.Edges.placed.Tie as tie
 
@@ -42,5 +43,5 @@ returns-2 c =
 pub placed-spec : {M : Type 1} → statement M
 placed-spec =
     tie.close
-    (tie.spec (λ c κs. search needs) (λ c κs. search needs) returns (λ c κs. search needs) (λ c κs. search needs)
-    (λ c κs. search needs) returns-2)
+    (tie.spec (λ c κs. search needs) (λ c κs. search needs) returns (λ c κs. search needs)
+    (λ c κs. search (needs, unknown)) (λ c κs. search needs) returns-2)
