@@ -40,9 +40,9 @@ returns : tie.Need-returns
 returns c =
     let s = c .before .before .before in
     record {
-      whole = s .pre .build .whole;
-      long = s .pre .build .long;
-      twelve = s .pre .twelve;
+      whole = s .pre .0 .build .whole;
+      long = s .pre .0 .build .long;
+      twelve = s .pre .0 .twelve;
       kept = λ h ms k. told s (c .enum-told .given .1) h _ _ _ _ ms k;
     }
 
@@ -52,16 +52,16 @@ returns-2 c =
     let s = m .before .before .before in
     let k = c .with-stem .ensures in
     record {
-      whole = s .pre .build .whole;
+      whole = s .pre .0 .build .whole;
       long = k .long;
-      twelve = s .pre .twelve;
+      twelve = s .pre .0 .twelve;
       kept = λ h ms q. told s (m .marking .given .1) h _ _ _ _ ms (k .kept (s .args .state) h _ _ ms q);
     }
 
 mask-at-requires : tie.Need-mask-at-requires
 mask-at-requires c κs =
     let m = c .before .before in
-    omega (arith, ap maskEnd (m .marking2 .given .1), m .before .before .before .pre .named)
+    omega (arith, ap maskEnd (m .marking2 .given .1), m .before .before .before .pre .0 .named)
 
 returns-3 : tie.Need-returns-3
 returns-3 c =
@@ -70,8 +70,8 @@ returns-3 c =
     let s = m .before .before .before in
     let k = c .with-mask .ensures in
     record {
-      whole = s .pre .build .whole;
-      long = s .pre .build .long;
+      whole = s .pre .0 .build .whole;
+      long = s .pre .0 .build .long;
       twelve = k .twelve;
       kept = λ h ms q. told s (m .marking2 .given .1) h _ _ _ _ ms
           (masked-as (s .args .state) h _ _ _ _ ms (a .mask-at .ensures) (k .kept (s .args .state) h _ _ ms q));
@@ -80,7 +80,7 @@ returns-3 c =
 mask-at-requires-2 : tie.Need-mask-at-requires-2
 mask-at-requires-2 c κs =
     let m = c .before in
-    omega (arith, ap maskEnd (m .marking3 .given .1), m .before .before .before .pre .named)
+    omega (arith, ap maskEnd (m .marking3 .given .1), m .before .before .before .pre .0 .named)
 
 returns-4 : tie.Need-returns-4
 returns-4 c =
@@ -91,7 +91,7 @@ returns-4 c =
     record {
       whole = k .build .whole;
       long = k .build .long;
-      twelve = s .pre .twelve;
+      twelve = s .pre .0 .twelve;
       kept = λ h ms q. told s (m .marking3 .given .1) h _ _ _ _ ms
           (countered-as (s .args .state) h _ _ _ _ ms (a .mask-at2 .ensures) (k .kept h _ ms q));
     }
@@ -103,7 +103,7 @@ returns-5 c =
     let s = m .before .before .before in
     let k = l .clear-lists .ensures in
     record {
-      whole = s .pre .build .whole;
+      whole = s .pre .0 .build .whole;
       long = ap length (k .none) ∙ length-replicate 480 (pos 0);
       twelve = ap length (k .all);
       kept = λ h ms q. told s (m .enum-told2 .given .1) h _ _ _ _ ms
@@ -114,9 +114,9 @@ returns-6 : tie.Need-returns-6
 returns-6 c =
     let s = c .before .before .before in
     record {
-      whole = s .pre .build .whole;
-      long = s .pre .build .long;
-      twelve = s .pre .twelve;
+      whole = s .pre .0 .build .whole;
+      long = s .pre .0 .build .long;
+      twelve = s .pre .0 .twelve;
       kept = λ h ms k. told s (c .enum-told3 .given .1) h _ _ _ _ ms k;
     }
 

@@ -14,6 +14,7 @@ use Rattle.pen.specs.Drawn.{Drew}
 use Rattle.pen.proofs.Lent.{lent, back}
 use Rattle.pen.proofs.Drew.{drew-wrote, drew-refused}
 use Rattle.hints.specs.Path.{hasPoint, strokeBy}
+use Rattle.zones.specs.Numbers.{ListedZones}
 use Rattle.words.specs.Words.{rawAt}
 use Rattle.commands.specs.declared.reading.Read.{Read}
 use Rattle.commands.specs.declared.reading.Command.the-variants.{Mark, Draw}
@@ -27,18 +28,18 @@ use Rattle.run.proofs.running.run.Statement.{statement}
 use Rattle.run.proofs.running.run.Tie as tie
 
 abbrev Inv-loop : tie.InvT-loop
-Inv-loop script part first n from state out₀ mask₀ stems₀ initial₀ map₀ tags₀ sizes₀ pen₀ next₀ at₀ out mask stems
+Inv-loop script part first n from state out₀ zones mask₀ stems₀ initial₀ map₀ tags₀ sizes₀ pen₀ next₀ at₀ out mask stems
     initial map tags sizes pen next at =
-    Running state script part first n from out₀ mask stems initial map tags sizes pen next at out
+    Running state script part first n from out₀ mask stems initial map tags sizes pen next at out × ListedZones state zones
 
 abbrev μ-loop : tie.MeasureT-loop
-μ-loop script part first n from state out₀ mask₀ stems₀ initial₀ map₀ tags₀ sizes₀ pen₀ next₀ at₀ out mask stems
+μ-loop script part first n from state out₀ zones mask₀ stems₀ initial₀ map₀ tags₀ sizes₀ pen₀ next₀ at₀ out mask stems
     initial map tags sizes pen next at =
     2 * (n - at) + unready (sizes .valid)
 
 -- the arguments, from a turn's start
 abbrev begin : tie.At-loop Inv-loop μ-loop → tie.Start Inv-loop μ-loop
-begin l = l .before .before .before .before .before
+begin l = l .before .before .before .before .before .before .before
 
 -- no output is longer than memory
 room : (l : tie.At-loop Inv-loop μ-loop) → length (begin l .args .out .now) * 4 < 9223372036854775808
@@ -88,13 +89,13 @@ module _ (c : tie.After-draw-by-lines Inv-loop μ-loop) where
   abbrev call-turn : tie.At-loop Inv-loop μ-loop
   call-turn = draw-turn asked
 
-  drew : Drew (strokeBy (call-turn .loop .inv .hints .map) (begin call-turn .args .state .scale) (call-turn .loop .pen)
+  drew : Drew (strokeBy (call-turn .loop .inv .0 .hints .map) (begin call-turn .args .state .scale) (call-turn .loop .pen)
       (path asked)) (call-turn .loop .pen) (drop (call-turn .loop .next) (call-turn .loop .out))
       (c .draw-by-lines .result) (c .draw-by-lines .last .1 .1 .1 .1 .1 .1 .0)
   drew =
-      let k = call-turn .loop .inv .kept .map in
+      let k = call-turn .loop .inv .0 .kept .map in
       rw (lent (call-turn .loop .out) (call-turn .loop .next)) at
-      (c .draw-by-lines .ensures (call-turn .loop .inv .hints .map) (k .scale) (k .lines))
+      (c .draw-by-lines .ensures (call-turn .loop .inv .0 .hints .map) (k .scale) (k .lines))
 
   unwanted : wantsMap (call-turn .loop .sizes .valid) (path asked) ≡ false
   unwanted = sym (asked .wants-map .ensures) ∙ c .before .before .before .before .if2 .left
@@ -105,15 +106,17 @@ module _ (c : tie.After-draw-by-lines Inv-loop μ-loop) where
       same-len-mid (call-turn .loop .next) (length (call-turn .loop .out) - call-turn .loop .next)
       (call-turn .loop .out) (c .draw-by-lines .last .1 .1 .1 .1 .1 .1 .0)
       (c .draw-by-lines .kept .1 .1 .1 .1 .1 .1 .0) ∙
-      call-turn .loop .inv .goes .stands .along .same
+      call-turn .loop .inv .0 .goes .stands .along .same
 
 loop-holds : tie.Need-loop-holds Inv-loop μ-loop
 loop-holds c =
-    let s = c .before .before .before .before in
-    let a = s .args in
-    rw (c .before .none .ensures, c .new .ensures)
-    (starts (a .state) (a .script .now) (a .part .now) (a .first) (a .n) (a .from) (a .out .now) _ _ _ (s .pre)
-    (record { all = refl; named = refl }) refl)
+    let s = c .before .before .before .before .before .before in
+    let a = s .args in (
+      rw (c .before .none .ensures, c .new .ensures)
+          (starts (a .state) (a .script .now) (a .part .now) (a .first) (a .n) (a .from) (a .out .now) _ _ _ (s .pre)
+          (record { all = refl; named = refl }) refl),
+      c .before .before .list .ensures,
+    )
 
 read-command-requires : tie.Need-read-command-requires Inv-loop μ-loop
 read-command-requires c κs =
@@ -129,48 +132,56 @@ loop-again : tie.Need-loop-again Inv-loop μ-loop
 loop-again c =
     let m = c .before .before .before in
     let r = m .before .before in
-    rw (moved r)
-    (closes _ _ _ _ _ _ _ _ _ _ _ _ _ _ _ _ _ (mark-turn m .loop .inv) (r .before .loop-test .taken) (mark-is m)
-    (sym (c .before .is-close .ensures) ∙ c .if1 .taken))
+    let i = mark-turn m .loop .inv in (
+      rw (moved r)
+          (closes _ _ _ _ _ _ _ _ _ _ _ _ _ _ _ _ _ (i .0) (r .before .loop-test .taken) (mark-is m)
+          (sym (c .before .is-close .ensures) ∙ c .if1 .taken)),
+      i .1,
+    )
 
 marked-requires : tie.Need-marked-requires Inv-loop μ-loop
 marked-requires c κs =
-    let m = c .before .before .before .before .before .before .before in
-    let g = mark-turn m .loop .inv in
-    record {
-      named = mask-there (g .goes .sound) (m .before .before .before .loop-test .taken) (mark-is m);
-      build = mappable _ _ _ _ _ _ _ _ _ _ _ _ _ _ _ _ _ g .build;
-      twelve = g .twelve;
-    }
+    let m = c .before .before .before .before .before .before .before .before in
+    let i = mark-turn m .loop .inv in (
+      record {
+        named = mask-there (i .0 .goes .sound) (m .before .before .before .loop-test .taken) (mark-is m);
+        build = mappable _ _ _ _ _ _ _ _ _ _ _ _ _ _ _ _ _ (i .0) .build;
+        twelve = i .0 .twelve;
+      },
+      i .1,
+    )
 
 loop-less-2 : tie.Need-loop-less-2 Inv-loop μ-loop
 loop-less-2 c =
-    let m = c .before .before .before .before .before .before .before .before in
+    let m = c .before .before .before .before .before .before .before .before .before in
     let r = m .before .before in
     omega (arith, moved r, r .before .loop-test .taken, unready-one (c .marked .result .valid))
 
 loop-again-2 : tie.Need-loop-again-2 Inv-loop μ-loop
 loop-again-2 c =
-    let m = c .before .before .before .before .before .before .before .before in
+    let m = c .before .before .before .before .before .before .before .before .before in
     let r = m .before .before in
-    rw (moved r)
-    (marks _ _ _ _ _ _ _ _ _ _ _ _ _ _ _ _ _ (mark-turn m .loop .inv) (r .before .loop-test .taken) _ _ _ _ _
-    (mark-is m) (c .marked .ensures))
+    let i = mark-turn m .loop .inv in (
+      rw (moved r)
+          (marks _ _ _ _ _ _ _ _ _ _ _ _ _ _ _ _ _ (i .0) (r .before .loop-test .taken) _ _ _ _ _ (mark-is m)
+          (c .marked .ensures)),
+      i .1,
+    )
 
 ready-requires : tie.Need-ready-requires Inv-loop μ-loop
 ready-requires c κs =
-    mappable _ _ _ _ _ _ _ _ _ _ _ _ _ _ _ _ _
-    (draw-turn (c .before .before .before .before .before .before) .loop .inv)
+    let i = draw-turn (c .before .before .before .before .before .before .before) .loop .inv in
+    (mappable _ _ _ _ _ _ _ _ _ _ _ _ _ _ _ _ _ (i .0), i .1)
 
 -- where a map is made, it was wanted
 module _ (c : tie.After-ready Inv-loop μ-loop) where
   abbrev for : tie.After-wants-map Inv-loop μ-loop
-  for = c .before .before .before .before .before .before .before
+  for = c .before .before .before .before .before .before .before .before
 
   want : (draw-turn for .loop .sizes .valid ≡ false) × (hasPoint (path for) ≡ true)
   want =
       wanted (draw-turn for .loop .sizes .valid) (path for)
-      (sym (for .wants-map .ensures) ∙ c .before .before .before .before .before .before .if2 .taken)
+      (sym (for .wants-map .ensures) ∙ c .before .before .before .before .before .before .before .if2 .taken)
 
 loop-less-3 : tie.Need-loop-less-3 Inv-loop μ-loop
 loop-less-3 c = omega (arith, ap unready (c .ready .ensures .valid), ap unready (want c .0))
@@ -178,26 +189,29 @@ loop-less-3 c = omega (arith, ap unready (c .ready .ensures .valid), ap unready 
 loop-again-3 : tie.Need-loop-again-3 Inv-loop μ-loop
 loop-again-3 c =
     let w = for c in
-    readies _ _ _ _ _ _ _ _ _ _ _ _ _ _ _ _ _ (draw-turn w .loop .inv) (draw-read w .before .loop-test .taken)
-    _ _ _ _ _ (draw-is w) (want c .1) (want c .0) (c .ready .ensures)
+    let i = draw-turn w .loop .inv in (
+      readies _ _ _ _ _ _ _ _ _ _ _ _ _ _ _ _ _ (i .0) (draw-read w .before .loop-test .taken) _ _ _ _ _ (draw-is w)
+          (want c .1) (want c .0) (c .ready .ensures),
+      i .1,
+    )
 
 -- what is left of the output is where it was
 within : (c : tie.After-map2 Inv-loop μ-loop) → let l = draw-turn (c .before .before .before) in
     l .loop .next ≤ length (l .loop .out)
-within c = draw-turn (c .before .before .before) .loop .inv .goes .stands .along .within
+within c = draw-turn (c .before .before .before) .loop .inv .0 .goes .stands .along .within
 
 mul-draw-by-lines : tie.Need-mul-draw-by-lines Inv-loop μ-loop
 mul-draw-by-lines c =
     let l = draw-turn (c .before .before .before) in
-    record { fits = omega (arith, room l, within c, l .loop .inv .goes .stands .along .same) }
+    record { fits = omega (arith, room l, within c, l .loop .inv .0 .goes .stands .along .same) }
 
 draw-by-lines-requires : tie.Need-draw-by-lines-requires Inv-loop μ-loop
 draw-by-lines-requires c κs =
-    let k = draw-turn (c .before .before .before .before) .loop .inv .kept .map in
+    let k = draw-turn (c .before .before .before .before) .loop .inv .0 .kept .map in
     (k .fits, λ e. k .order)
 
-add-t43 : tie.Need-add-t43 Inv-loop μ-loop
-add-t43 c =
+add-t48 : tie.Need-add-t48 Inv-loop μ-loop
+add-t48 c =
     let d = c .before .before .before in
     let l = call-turn d in
     omega (arith, begin l .pre .start, begin l .pre .short, draw-read (asked d) .before .loop-test .taken)
@@ -208,7 +222,7 @@ returns c =
     let w = asked d in
     let l = call-turn d in
     rw (back (l .loop .next) (l .loop .out))
-    (refuses _ _ _ _ _ _ _ _ _ _ _ _ _ _ _ _ _ (l .loop .inv) (draw-read w .before .loop-test .taken) _ _ (draw-is w)
+    (refuses _ _ _ _ _ _ _ _ _ _ _ _ _ _ _ _ _ (l .loop .inv .0) (draw-read w .before .loop-test .taken) _ _ (draw-is w)
     (unwanted d) (drew-refused (drew d) (c .enum-told .given .1)))
 
 -- a call that wrote its words
@@ -226,12 +240,12 @@ add-next c =
         arith,
         q .count,
         leb-true (length
-            (strokeBy (l .loop .inv .hints .map) (begin l .args .state .scale) (l .loop .pen) (path (asked d)) .words))
+            (strokeBy (l .loop .inv .0 .hints .map) (begin l .args .state .scale) (l .loop .pen) (path (asked d)) .words))
             (length (drop (l .loop .next) (l .loop .out))) (q .fit),
         length-drop (l .loop .next) (l .loop .out),
-        l .loop .inv .goes .stands .along .within,
+        l .loop .inv .0 .goes .stands .along .within,
         room l,
-        l .loop .inv .goes .stands .along .same,
+        l .loop .inv .0 .goes .stands .along .same,
       );
     }
 
@@ -245,20 +259,22 @@ loop-again-4 c =
     let d = done c in
     let w = asked d in
     let l = call-turn d in
-    let q = drew-wrote (drew d) (c .before .before .answer .given .0 .0) (c .before .before .answer .given .1) in
-    rw (moved (draw-read w), back (l .loop .next) (l .loop .out))
-    (draws _ _ _ _ _ _ _ _ _ _ _ _ _ _ _ _ _ (l .loop .inv) (draw-read w .before .loop-test .taken) _ _ _ (draw-is w)
-    (unwanted d) q)
+    let q = drew-wrote (drew d) (c .before .before .answer .given .0 .0) (c .before .before .answer .given .1) in (
+      rw (moved (draw-read w), back (l .loop .next) (l .loop .out))
+          (draws _ _ _ _ _ _ _ _ _ _ _ _ _ _ _ _ _ (l .loop .inv .0) (draw-read w .before .loop-test .taken) _ _ _
+          (draw-is w) (unwanted d) q),
+      l .loop .inv .1,
+    )
 
 returns-2 : tie.Need-returns-2 Inv-loop μ-loop
-returns-2 c = turn-done (c .before .loop .inv .goes) (omega arith)
+returns-2 c = turn-done (c .before .loop .inv .0 .goes) (omega arith)
 
 pub run-spec : {M : Type 1} → statement M
 run-spec =
     tie.close
-    (tie.spec Inv-loop μ-loop (λ c κs. search needs) (λ c κs. search needs) loop-holds read-command-requires
+    (tie.spec Inv-loop μ-loop (λ c κs. search needs) (λ c κs. search needs) (λ c κs. search needs) loop-holds read-command-requires
     (λ c. search needs) (λ c κs. search needs) loop-less loop-again marked-requires loop-less-2 loop-again-2
     (λ c. search needs) (λ c κs. search needs) ready-requires loop-less-3 loop-again-3 mul-draw-by-lines
     within within (λ c. search needs) draw-by-lines-requires (λ c. search needs)
-    (λ c. search needs) add-t43 (λ c. same-out (c .before .before .before)) returns add-next loop-less-4 loop-again-4
-    (λ c. c .before .loop .inv .goes .stands .along .same) returns-2)
+    (λ c. search needs) add-t48 (λ c. same-out (c .before .before .before)) returns add-next loop-less-4 loop-again-4
+    (λ c. c .before .loop .inv .0 .goes .stands .along .same) returns-2)

@@ -13,12 +13,12 @@ returns c =
     let m = c .make-map .ensures in
     let s = i .before .before .before .before in
     let a = s .args in
-    let e = n .new .ensures ∙ twelve-bytes _ (s .pre .twelve) in
+    let e = n .new .ensures ∙ twelve-bytes _ (s .pre .0 .twelve) in
     record {
       map = record {
         build = record { whole = record { all = b .whole .all; named = m .lent .whole .named }; long = m .long; fits = b .fits };
         current = m .lent .whole .all;
-        twelve = s .pre .twelve;
+        twelve = s .pre .0 .twelve;
       };
       valid = refl;
       kept = λ h ms v k. ready-kept (a .state) h _ _ _ _ ms _ _ _ _ (k .map .valid ∙ v) (b .kept h _ ms k) (rw e at m);

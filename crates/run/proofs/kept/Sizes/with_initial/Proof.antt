@@ -10,7 +10,7 @@ returns c =
     let s = c .before in
     record {
       whole = s .pre .0;
-      fits = s .pre .1;
+      fits = s .pre .1 .0;
       kept = λ h bs ms k. stays-based (s .args .state) h (s .args .self) bs _ _ ms k (c .if1 .taken);
     }
 
