@@ -19,7 +19,8 @@ returns-2 c =
     λ ts. let l = c .before .before .before .before in
     let r = l .before .before .before .before in
     let a = r .before .before .args in
-    let t = sym (c .before .before .before .if2 .taken) ∙ l .less .ensures ∙ ap (lessF (a .height)) (l .before .height-at2 .ensures) in
+    let t = sym (c .before .before .before .if2 .taken) ∙ l .less .ensures ∙
+    ap (lessF (a .height)) (l .before .height-at2 .ensures) in
     let m = served (a .lines .now) ts (a .len) (a .scale) (a .height) (r .reached .result) true (r .before .before .pre)
     (r .reached .ensures .0) (r .reached .ensures .1) t in
     cc
@@ -31,8 +32,8 @@ returns-3 c =
     let a = r .before .before .args in
     let t = sym (c .before .before .before .before .if2 .left) ∙ l .less .ensures ∙
     ap (lessF (a .height)) (l .before .height-at2 .ensures) in
-    let m = served (a .lines .now) ts (a .len) (a .scale) (a .height) (r .reached .result) false (r .before .before .pre)
-    (r .reached .ensures .0) (r .reached .ensures .1) t in
+    let m = served (a .lines .now) ts (a .len) (a .scale) (a .height) (r .reached .result) false
+    (r .before .before .pre) (r .reached .ensures .0) (r .reached .ensures .1) t in
     cc
 
 pub transform-spec : {M : Type 1} → statement M
