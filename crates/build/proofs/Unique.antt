@@ -35,6 +35,7 @@ module _ (κs : Lfts 0) (st : HintState) (ss : Stems) where
       build-map-reads.Post κs (st, (mask, (ss, (initial, tt)))) r′ (st, (mask, (ss, (initial, tt)))) → r ≡ r′
   build-map-unique mask initial r r′ p q = p ∙ sym q
 
+-- the length, and the map that the lists hold
 module _ (κs : Lfts 3) (a : ArgsD make-initial.signature κs) (r r′ : ResD make-initial.signature κs)
     (x x′ : AtExit (endedOf 3 make-initial-kinds.ps make-initial-kinds.r) κs) where
   pub make-initial-unique : make-initial-reads.Post κs a r x → make-initial-reads.Post κs a r′ x′ →
@@ -45,6 +46,7 @@ module _ (κs : Lfts 3) (a : ArgsD make-initial.signature κs) (r r′ : ResD ma
       let same = p .map ∙ sym (q .map) in
       (ap (λ (m : HintMap). m .len) same, ap invalidMap same)
 
+-- the length, the map and the stems that the lists hold, by a map that has the initial lines
 module _ (κs : Lfts 4) (a : ArgsD make-map.signature κs) (r r′ : ResD make-map.signature κs)
     (x x′ : AtExit (endedOf 4 make-map-kinds.ps make-map-kinds.r) κs) where
   pub make-map-unique : make-map-reads.Pre κs a → make-map-reads.Post κs a r x → make-map-reads.Post κs a r′ x′ →

@@ -74,12 +74,14 @@ module _ (κs : Lfts 2) (a : ArgsD from-lists.signature κs) (r r′ : ResD from
   from-lists-unique p q = p ∙ sym q
 
 -- ---- what lists are left as
+-- every edge that the lists hold
 module _ (κs : Lfts 2) (a : ArgsD list.signature κs) (r r′ : ResD list.signature κs)
     (x x′ : AtExit (endedOf 2 list-kinds.ps list-kinds.r) κs) where
   pub list-unique : list-reads.Post κs a r x → list-reads.Post κs a r′ x′ →
       edgesIn (now (x .1 .0)) (now (x .1 .1 .0)) ≡ edgesIn (now (x′ .1 .0)) (now (x′ .1 .1 .0))
   list-unique p q = p .edges ∙ sym (q .edges)
 
+-- the length, and the map that the lists hold, whatever its scale
 module _ (κs : Lfts 2) (a : ArgsD insert-edges.signature κs) (r r′ : ResD insert-edges.signature κs)
     (x x′ : AtExit (endedOf 2 insert-edges-kinds.ps insert-edges-kinds.r) κs) where
   pub insert-edges-unique : insert-edges-reads.Post κs a r x → insert-edges-reads.Post κs a r′ x′ →

@@ -55,6 +55,7 @@ module _ (κs : Lfts 1) (a : ArgsD draw.signature κs) (r r′ : ResD draw.signa
       (r ≡ r′) × (now (x .1 .1 .1 .1 .0) ≡ now (x′ .1 .1 .1 .1 .0))
   draw-unique p q = drew-one p q
 
+-- the result and every word, by a map that has the lines
 module _ (κs : Lfts 2) (a : ArgsD draw-by-lines.signature κs) (r r′ : ResD draw-by-lines.signature κs)
     (x x′ : AtExit (endedOf 2 draw-by-lines-kinds.ps draw-by-lines-kinds.r) κs) where
   pub draw-by-lines-unique : draw-by-lines-reads.Pre κs a → draw-by-lines-reads.Post κs a r x →

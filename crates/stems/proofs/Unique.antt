@@ -211,12 +211,14 @@ module _ (κs : Lfts 1) (a : ArgsD put-stem.signature κs) (r r′ : ResD put-st
       now (x .0) ≡ now (x′ .0)
   put-stem-unique p q = p ∙ sym q
 
+-- the mask that the bytes are
 module _ (κs : Lfts 1) (a : ArgsD clear-active.signature κs) (r r′ : ResD clear-active.signature κs)
     (x x′ : AtExit (endedOf 1 clear-active-kinds.ps clear-active-kinds.r) κs) where
   pub clear-active-unique : clear-active-reads.Post κs a r x → clear-active-reads.Post κs a r′ x′ →
       ofBytes (now (x .0)) ≡ ofBytes (now (x′ .0))
   clear-active-unique p q = p ∙ sym q
 
+-- every stem that the list holds
 module _ (κs : Lfts 1) (a : ArgsD list.signature κs) (r r′ : ResD list.signature κs)
     (x x′ : AtExit (endedOf 1 list-kinds.ps list-kinds.r) κs) where
   pub list-unique : list-reads.Post κs a r x → list-reads.Post κs a r′ x′ →
