@@ -27,7 +27,8 @@ use Rattle.build.specs.Build.{boxedMap, savedAll, builtWith, placedOf, i
 use Rattle.build.specs.Made.{placedIn, Boxed, Baselined, Locked, Freed, SavedIn, MadeInitial, MadeMap}
 
 -- as many stems are declared as there is room for
-declared-least : (ns : List ℤ) (count k : ℕ) → k ≡ min count 96 → declaredIn (stemsIn ns k) ≡ declaredIn (stemsIn ns count)
+declared-least : (ns : List ℤ) (count k : ℕ) → k ≡ min count 96 →
+    declaredIn (stemsIn ns k) ≡ declaredIn (stemsIn ns count)
 unfolding stemsIn
 declared-least ns count k e =
     ap (λ (n : ℕ). take n (stemsIn ns count .list)) e ∙

@@ -44,6 +44,14 @@ module _ (ls : List ℤ) (ts : List ℕ) (n : ℕ) (h : n ≤ 96) where
   unfolding mapIn
   map-len s = refl
 
+  -- a map in lists has their lines
+  pub own-lines : (s : Fixed) → LinesOf (mapIn ls ts n s) ls n
+  own-lines s = record { tags = ts; edges = view-map s }
+
+  pub map-scale : (s : Fixed) → mapIn ls ts n s .scale ≡ s
+  unfolding mapIn
+  map-scale s = refl
+
   -- the edge at a place that counts
   pub held-at : (i : ℕ) → i < n → getD (held ls ts n) i noHint ≡ hintIn ls ts i
   held-at i l = getD-take n (edgesIn ls ts) i noHint l ∙ edge-in ls ts i (omega arith)
@@ -128,8 +136,8 @@ pub none-lent : (ls : List ℤ) (ts : List ℕ) → Whole ls ts → Lent ls ts 0
 none-lent ls ts w = record { whole = w; fits = omega arith; order = λ i j p q. absurd (omega arith) }
 
 -- the lines of a map's edges, as many as there is room for
-pub listed-lines : (m : HintMap) (ls : List ℤ) (ts : List ℕ) (k : ℕ) → length (m .edges) ≡ 96 → Listed (m .edges) ls ts →
-    k ≡ min (m .len) 96 → LinesOf m ls k
+pub listed-lines : (m : HintMap) (ls : List ℤ) (ts : List ℕ) (k : ℕ) → length (m .edges) ≡ 96 →
+    Listed (m .edges) ls ts → k ≡ min (m .len) 96 → LinesOf m ls k
 listed-lines m ls ts k long l e =
     record {
       tags = ts;

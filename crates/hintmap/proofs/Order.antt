@@ -53,7 +53,8 @@ front : (n : ℕ) (e : Edges) (xs : List Hint) → mayEnter n e ≡ true → cha
     Ascends (edgesOf e ++ xs)
 unfolding mayEnter bars clearAhead
 front n (One y) xs m c a g = cons-ascends y xs (λ l. let k = g l in omega heights) a
-front n (Two b t) xs m c a g = cons-ascends b (t ∷ xs) (λ _. pair-rises n b t m) (cons-ascends t xs (clear-top b t xs c) a)
+front n (Two b t) xs m c a g =
+    cons-ascends b (t ∷ xs) (λ _. pair-rises n b t m) (cons-ascends t xs (clear-top b t xs c) a)
 
 first-is : (e : Edges) (xs : List Hint) → getD (edgesOf e ++ xs) 0 noHint ≡ firstEdge e
 first-is (One y) xs = refl

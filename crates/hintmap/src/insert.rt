@@ -238,7 +238,8 @@ fn put(lines: &mut [i32; LINES], tags: &mut [u8; TAGS], len: usize, at: usize, e
 // Gives the new length.
 pub fn insert_edges(lines: &mut [i32; LINES], tags: &mut [u8; TAGS], len: usize, e: Edges) -> usize
     requires { ⌜ Lent (now lines) (now tags) len ⌝ }
-    ensures { λ r. ⌜ Inserted (now (lines .entry)) (now (tags .entry)) len e r (now (lines .exit)) (now (tags .exit)) ⌝ }
+    ensures { λ r. ⌜ Inserted (now (lines .entry)) (now (tags .entry)) len e r (now (lines .exit))
+        (now (tags .exit)) ⌝ }
 {
     match decide(lines, tags, len, e) {
         Outcome::Enters(at, placed) => put(lines, tags, len, at, placed),

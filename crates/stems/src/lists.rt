@@ -15,8 +15,8 @@ ghost use mathlib.Core.Path.{_≡_};
 ghost use Prim.Native.Nat.{_+_, _<_, _≤_};
 ghost use lib.ListN.{length, set};
 ghost use Rattle.stems.specs.Edge.{maxHints};
-ghost use Rattle.stems.specs.Lists.{kindIn, kindNumber, mark, tagOf, heightIn, deviceIn, scaleIn, hintIn, setLine};
-ghost use Rattle.stems.specs.Lists.{Put, Copied, stemIn, stemsIn, markIf, setStem, ListedStems};
+ghost use Rattle.stems.specs.Lists.{kindIn, kindNumber, mark, tagOf, heightIn, deviceIn, scaleIn, hintIn};
+ghost use Rattle.stems.specs.Lists.{setLine, Put, Copied, stemIn, stemsIn, markIf, setStem, ListedStems};
 
 // How many numbers the lines of a map are, its tags, and stems.
 pub const LINES: usize = 288;

@@ -1,7 +1,12 @@
 // A map's edges and the heights that it maps, against a row.
+use fixed::Fixed;
 use hintmap::HintMap;
+use hintmap::transform;
 use stems::Hint;
+use stems::LINES;
+use stems::TAGS;
 ghost use Prim.Native.Nat.{_+_, _≤_};
+ghost use Rattle.stems.specs.Edge.{maxHints};
 
 // From `at` on: the count of edges, and seven numbers for each.
 pub(crate) fn edges_agree(map: HintMap, row: &[i32], at: usize) -> bool
@@ -62,7 +67,8 @@ fn line_agrees(edge: Hint, row: &[i32], at: usize) -> bool
     edge.scale.bits == test_tables::number(row, at + 2)
 }
 
-// From `at` to the end: a count of heights, and for each the height and where the map puts it.
+// From `at` to the end: a count of heights, and for each the height and where the map puts it. No map
+// here has more than 96 edges.
 pub(crate) fn heights_agree(map: HintMap, row: &[i32], at: usize) -> bool
     requires { ⌜ at ≤ 1000 ⌝ }
 {
@@ -70,20 +76,24 @@ pub(crate) fn heights_agree(map: HintMap, row: &[i32], at: usize) -> bool
     if row.len() != at + 1 + 2 * count {
         return false;
     }
+    let len = map.len;
+    if 96 < len {
+        return false;
+    }
+    let mut lines = [0i32; LINES];
+    let mut tags = [0u8; TAGS];
+    map.list(&mut lines, &mut tags);
     for i in 0..count {
-        if !height_agrees(map, row, at + 1 + 2 * i) {
+        if !height_agrees(&lines, len, map.scale, row, at + 1 + 2 * i) {
             return false;
         }
     }
     true
 }
 
-fn height_agrees(map: HintMap, row: &[i32], at: usize) -> bool
-    requires { ⌜ at ≤ 2000 ⌝ }
+fn height_agrees(lines: &[i32; LINES], len: usize, scale: Fixed, row: &[i32], at: usize) -> bool
+    requires { ⌜ (len ≤ maxHints) × (at ≤ 2000) ⌝ }
 {
-    if 96 < map.len {
-        return false;
-    }
-    let device = map.transform(test_tables::fixed(row, at));
+    let device = transform(lines, len, scale, test_tables::fixed(row, at));
     device.bits == test_tables::number(row, at + 1)
 }

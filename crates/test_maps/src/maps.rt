@@ -5,10 +5,16 @@ use crate::tables::Rows;
 use fixed::Fixed;
 use hintmap::Edges;
 use hintmap::HintMap;
+use hintmap::insert_edges;
 use stems::Hint;
+use stems::LINES;
 use stems::Side;
 use stems::StemHint;
+use stems::TAGS;
 ghost use Prim.Native.Nat.{_+_, _≤_};
+ghost use Rattle.stems.specs.Edge.{maxHints};
+ghost use Rattle.stems.specs.Lists.{Whole};
+ghost use Rattle.hintmap.specs.Lent.{Lent};
 
 pub(crate) fn run() {
     tables::run(b"maps edge by edge", Rows::Maps);
@@ -17,28 +23,47 @@ pub(crate) fn run() {
 // A row: a scale, 1 if the initial map is given, the stems of that map and those of the map; the
 // map's edges, and heights.
 pub(crate) fn map_agrees(row: &[i32]) -> bool {
-    let none = HintMap::new(test_tables::fixed(row, 1));
-    let initial = with_stems(none, row, 3, none, false);
+    let scale = test_tables::fixed(row, 1);
+    let none = [0i32; LINES];
+    let mut base = [0i32; LINES];
+    let mut base_tags = [0u8; TAGS];
+    let size = put_stems(&mut base, &mut base_tags, row, 3, scale, &none, 0, false);
     let then = after_stems(row, 3);
-    let map = with_stems(none, row, then, initial, test_tables::flag(row, 2));
+    let given = test_tables::flag(row, 2);
+    let mut lines = [0i32; LINES];
+    let mut tags = [0u8; TAGS];
+    let len = put_stems(&mut lines, &mut tags, row, then, scale, &base, size, given);
     let at = after_stems(row, then);
+    let map = HintMap::from_lists(&lines, &tags, len, scale);
     if !edges::edges_agree(map, row, at) {
         return false;
     }
     edges::heights_agree(map, row, edges::after_edges(row, at))
 }
 
-// The stems are put in: from `at` on their count, and five numbers for each.
-fn with_stems(start: HintMap, row: &[i32], at: usize, initial: HintMap, given: bool) -> HintMap
-    requires { ⌜ at ≤ 1000 ⌝ }
+// The stems are put into a map with no edges: from `at` on their count, and five numbers for each.
+// Gives the map's length.
+fn put_stems(
+    lines: &mut [i32; LINES],
+    tags: &mut [u8; TAGS],
+    row: &[i32],
+    at: usize,
+    scale: Fixed,
+    initial: &[i32; LINES],
+    size: usize,
+    given: bool,
+) -> usize
+    requires { ⌜ Whole (now lines) (now tags) × ((at ≤ 1000) × (size ≤ maxHints)) ⌝ }
+    ensures { λ r. ⌜ Lent (now (lines .exit)) (now (tags .exit)) r ⌝ }
 {
     let count = test_tables::count(row, at, 20);
-    let mut map = start;
+    let mut len: usize = 0;
     for i in 0..count {
         let stem = stem_at(row, at + 1 + 5 * i);
-        map = with_stem(map, stem, i as u8, initial, given);
+        let edges = edges_of(stem, i as u8, scale);
+        len = put_edges(lines, tags, len, edges, scale, initial, size, given);
     }
-    map
+    len
 }
 
 // Where the row goes on after the stems.
@@ -72,21 +97,30 @@ pub(crate) fn stem(min: Fixed, max: Fixed) -> StemHint {
     }
 }
 
-// A stem's edges are put in, or dropped. No map here has more than 96 edges.
-pub(crate) fn with_stem(
-    map: HintMap,
-    stem: StemHint,
-    index: u8,
-    initial: HintMap,
+// A stem's edges.
+pub(crate) fn edges_of(stem: StemHint, index: u8, scale: Fixed) -> Edges {
+    let bottom = Hint::setup(stem, index, scale, Side::Bottom);
+    let top = Hint::setup(stem, index, scale, Side::Top);
+    Edges::choose(stem.shape(), bottom, top)
+}
+
+// Edges are put in, or dropped. Where an initial map is given, its lines place them again. Gives the
+// new length.
+fn put_edges(
+    lines: &mut [i32; LINES],
+    tags: &mut [u8; TAGS],
+    len: usize,
+    edges: Edges,
+    scale: Fixed,
+    initial: &[i32; LINES],
+    size: usize,
     given: bool,
-) -> HintMap {
-    if 96 < map.len {
-        return map;
+) -> usize
+    requires { ⌜ Lent (now lines) (now tags) len × (size ≤ maxHints) ⌝ }
+    ensures { λ r. ⌜ Lent (now (lines .exit)) (now (tags .exit)) r ⌝ }
+{
+    if given {
+        return insert_edges(lines, tags, len, edges.placed(initial, size, scale, scale));
     }
-    if 96 < initial.len {
-        return map;
-    }
-    let bottom = Hint::setup(stem, index, map.scale, Side::Bottom);
-    let top = Hint::setup(stem, index, map.scale, Side::Top);
-    map.insert(Edges::choose(stem.shape(), bottom, top), initial, given)
+    insert_edges(lines, tags, len, edges)
 }

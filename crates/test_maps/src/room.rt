@@ -2,9 +2,13 @@
 // beside it.
 use crate::maps;
 use fixed::Fixed;
-use hintmap::HintMap;
+use hintmap::insert_edges;
+use stems::LINES;
 use stems::StemHint;
+use stems::TAGS;
 ghost use Prim.Native.Nat.{_≤_};
+ghost use Rattle.stems.specs.Lists.{Whole};
+ghost use Rattle.hintmap.specs.Lent.{Lent};
 
 pub(crate) fn run() {
     let height = Fixed { bits: 200 * 65536 };
@@ -21,26 +25,37 @@ pub(crate) fn run() {
 fn differs(edges: usize, stem: StemHint, expected: usize) -> usize
     ensures { λ r. ⌜ r ≤ 1 ⌝ }
 {
-    let map = with_ghosts(edges);
-    if map.len != edges {
+    let mut lines = [0i32; LINES];
+    let mut tags = [0u8; TAGS];
+    let len = put_ghosts(&mut lines, &mut tags, edges);
+    if len != edges {
         return 1;
     }
-    let after = maps::with_stem(map, stem, 0, map, false);
-    if after.len != expected {
+    let after = insert_edges(
+        &mut lines,
+        &mut tags,
+        len,
+        maps::edges_of(stem, 0, Fixed::ONE),
+    );
+    if after != expected {
         return 1;
     }
     0
 }
 
-// A map of so many single edges, at 0.0, 1.0 and on.
-fn with_ghosts(count: usize) -> HintMap {
-    let mut map = HintMap::new(Fixed::ONE);
+// So many single edges, at 0.0, 1.0 and on, are put into a map with no edges. Gives its length.
+fn put_ghosts(lines: &mut [i32; LINES], tags: &mut [u8; TAGS], count: usize) -> usize
+    requires { ⌜ Whole (now lines) (now tags) ⌝ }
+    ensures { λ r. ⌜ Lent (now (lines .exit)) (now (tags .exit)) r ⌝ }
+{
+    let mut len: usize = 0;
     let mut height = Fixed::ZERO;
     for i in 0..count {
-        map = maps::with_stem(map, ghost_at(height), 0, map, false);
+        let single = maps::edges_of(ghost_at(height), 0, Fixed::ONE);
+        len = insert_edges(lines, tags, len, single);
         height = height.add(Fixed::ONE);
     }
-    map
+    len
 }
 
 // The stem of a bottom ghost.

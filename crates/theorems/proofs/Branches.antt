@@ -33,10 +33,9 @@ use Rattle.hintmap.specs.Insert.{chosen, outcomeOf, insertIn}
 use Rattle.hintmap.specs.WholeStems.{Like}
 use Rattle.hintmap.proofs.Alike.{like-refl}
 use Rattle.hintmap.proofs.Walk.{serves-at}
-use Rattle.build.specs.declared.place.Placed.{Placed}
 use Rattle.build.specs.Ghosts.{ghostAt, emBottom, emTop, emBoxed, uncovered, baselineBy, baselined}
 use Rattle.build.specs.Place.{declaredIn, preparedOf, putBy, lockedBy, lockedTurn, lockedTurns, freeBy, freeTurn}
-use Rattle.build.specs.Place.{freeTurns}
+use Rattle.build.specs.Place.{Placed, freeTurns}
 use Rattle.build.specs.Build.{boxedMap, initialPlaced, lockedPlaced}
 use Rattle.build.proofs.Steps.{prepared-like, locked-cases}
 use Rattle.build.proofs.Rounds.{locked-round, round-keeps}

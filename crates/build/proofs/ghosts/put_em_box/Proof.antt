@@ -38,7 +38,8 @@ returns c =
       map = λ initial given.
           rw (t .before .before .if1 .taken)
           (boxed (s .args .scale) initial given _ _ (t .before .em-bottom .result) (t .em-top .result)
-          (t .before .em-bottom .ensures) (t .em-top .ensures) (one .insert-edges .ensures .map (s .args .scale) initial)
+          (t .before .em-bottom .ensures) (t .em-top .ensures)
+          (one .insert-edges .ensures .map (s .args .scale) initial)
           (c .insert-edges2 .ensures .map (s .args .scale) initial));
     }
 

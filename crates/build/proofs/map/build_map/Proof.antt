@@ -28,7 +28,8 @@ returns c =
     let a = s .args in
     both _ _ _ _ (v .validate .ensures ∙ ap validMap (f .from-lists .ensures)) (c .from-list .ensures) ∙
     m .make-map .ensures .built (a .initial) refl
-    (listed-lines (a .initial) _ _ _ (held-long (a .initial) (s .good .1 .1 .1 .0 .1 .1 .0 .1 .0 .1)) (i .list3 .ensures) (k .least .ensures)) ∙
+    (listed-lines (a .initial) _ _ _ (held-long (a .initial) (s .good .1 .1 .1 .0 .1 .1 .0 .1 .0 .1))
+    (i .list3 .ensures) (k .least .ensures)) ∙
     ap (builtOf (a .state) (a .mask) (a .initial)) (l .list .ensures .stems)
 
 pub build-map-spec : {M : Type 1} → statement M

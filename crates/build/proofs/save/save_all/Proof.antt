@@ -46,17 +46,20 @@ module _ (c : tie.After-edge-at Inv-loop μ-loop) where
   -- whatever the stems become by it, the edges after it are left
   again : (ns : List ℤ) → length ns ≡ 480 →
       ((n : ℕ) → savedIn (c .edge-at .result) (stemsIn (at .loop .stems) n) ≡ stemsIn ns n) →
-      Inv-loop (at .before .args .stems .now) (at .before .args .lines .now) (at .before .args .tags .now) (at .before .args .len) 0 ns (at .loop .i + 1)
+      Inv-loop (at .before .args .stems .now) (at .before .args .lines .now) (at .before .args .tags .now)
+      (at .before .args .len) 0 ns (at .loop .i + 1)
   again ns long e =
       let es = held (at .before .args .lines .now) (at .before .args .tags .now) (at .before .args .len) in
-      let l = held-length (at .before .args .lines .now) (at .before .args .tags .now) (at .before .args .len) (at .before .pre .1) in
+      let l = held-length (at .before .args .lines .now) (at .before .args .tags .now) (at .before .args .len)
+      (at .before .pre .1) in
       let k : at .loop .i < length es = omega (arith, l) in (
         omega arith,
         (
           long,
           λ n. at .loop .inv .1 .1 n ∙ save-more es (stemsIn (at .loop .stems) n) (at .loop .i) k ∙
               ap (λ (x : Hint). savedAll (drop (at .loop .i + 1) es) (savedIn x (stemsIn (at .loop .stems) n)))
-              (held-at (at .before .args .lines .now) (at .before .args .tags .now) (at .before .args .len) (at .before .pre .1) (at .loop .i) (omega arith) ∙
+              (held-at (at .before .args .lines .now) (at .before .args .tags .now) (at .before .args .len)
+              (at .before .pre .1) (at .loop .i) (omega arith) ∙
               sym (c .edge-at .ensures)) ∙
               ap (savedAll (drop (at .loop .i + 1) es)) (e n),
         ),
@@ -98,6 +101,7 @@ returns c =
 pub save-all-spec : {M : Type 1} → statement M
 save-all-spec =
     tie.close
-    (tie.spec Inv-loop μ-loop (λ c. (omega arith, (c .pre .0, λ n. refl))) (λ c κs. omega (arith, c .before .before .pre .1))
+    (tie.spec Inv-loop μ-loop (λ c. (omega arith, (c .pre .0, λ n. refl)))
+    (λ c κs. omega (arith, c .before .before .pre .1))
     (λ c κs. search needs) (λ c. omega arith) (λ c. omega arith) loop-again (λ c. search needs) (λ c κs. search needs)
     (λ c κs. search needs) (λ c κs. search needs) (λ c. omega arith) (λ c. omega arith) loop-again-2 returns)

@@ -52,8 +52,8 @@ below c =
     let o = c .before in
     let f : Hint → Bool = λ x. under x (e o) in
     ⊎-elim
-    (λ w. sym (tested-before (ls o) (ts o) (n o) (begin o .pre .0) (e o) (at o) f (w .0 .taken) (o .place-of .ensures .0)
-    (w .1 .ensures) (w .2 .ensures)) ∙ ap not (w .3 .left))
+    (λ w. sym (tested-before (ls o) (ts o) (n o) (begin o .pre .0) (e o) (at o) f (w .0 .taken)
+    (o .place-of .ensures .0) (w .1 .ensures) (w .2 .ensures)) ∙ ap not (w .3 .left))
     (λ w. sym (none-before (ls o) (ts o) (n o) (begin o .pre .0) (e o) (at o) f (w .left)))
     (c .if2 .came)
 

@@ -31,4 +31,5 @@ returns-2 c =
 pub insert-edges-spec : {M : Type 1} → statement M
 insert-edges-spec =
     tie.close
-    (tie.spec (λ c κs. (search needs, search needs)) (λ c. search needs) put-requires (λ c. search needs) returns returns-2)
+    (tie.spec (λ c κs. (search needs, search needs)) (λ c. search needs) put-requires (λ c. search needs) returns
+    returns-2)

@@ -30,8 +30,8 @@ returns c =
     let l = c .before .before .before .before in
     let a = l .before .args in (
       l .loop .inv .0,
-      places (a .lines .now) (a .len) (a .height) (l .before .pre .0) (l .loop .at) (l .loop .inv .0) (l .before .pre .1)
-          (λ _. sym (asked (c .before)) ∙ c .if1 .taken) (l .loop .inv .1),
+      places (a .lines .now) (a .len) (a .height) (l .before .pre .0) (l .loop .at) (l .loop .inv .0)
+          (l .before .pre .1) (λ _. sym (asked (c .before)) ∙ c .if1 .taken) (l .loop .inv .1),
     )
 
 loop-again : tie.Need-loop-again Inv-loop μ-loop

@@ -35,7 +35,8 @@ loop-again c =
       (
         put-whole _ _ w i p _ m,
         before-next i
-            (λ j q. ap (λ x. getD x j noHint) e ∙ getD-set-other es i j _ noHint (λ z. omega arith) ∙ l .loop .inv .1 .1 j q)
+            (λ j q. ap (λ x. getD x j noHint) e ∙ getD-set-other es i j _ noHint (λ z. omega arith) ∙
+            l .loop .inv .1 .1 j q)
             (ap (λ x. getD x i noHint) e ∙ getD-set-same es i _ noHint k),
       ),
     )

@@ -23,5 +23,8 @@ clear-active-requires c κs =
     let twelve : length (e .before .before .args .self .bytes) ≡ 12 = search needs in
     (omega (arith, active-inside _ _ (active e)), active e)
 
+returns-2 : tie.Need-returns-2
+returns-2 c = search needs
+
 pub clear-spec : {M : Type 1} → statement M
-clear-spec = tie.close (tie.spec (λ c κs. search needs) returns clear-active-requires (λ c. search needs))
+clear-spec = tie.close (tie.spec (λ c κs. search needs) returns clear-active-requires returns-2)

@@ -12,5 +12,8 @@ returns c =
     let twelve : length (c .before .args .self .bytes) ≡ 12 = search needs in
     sym (past-off _ _ (omega arith))
 
+returns-2 : tie.Need-returns-2
+returns-2 c = search needs
+
 pub get-spec : {M : Type 1} → statement M
-get-spec = tie.close (tie.spec returns (λ c κs. search needs) (λ c. search needs))
+get-spec = tie.close (tie.spec returns (λ c κs. search needs) returns-2)
