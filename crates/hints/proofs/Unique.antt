@@ -66,6 +66,6 @@ module _ (κs : Lfts 2) (a : ArgsD draw-by-lines.signature κs) (r r′ : ResD d
       let n = a .1 .0 in
       let s = a .1 .1 .0 in
       let m = mapIn ls [] n s in
-      let l = own-lines ls [] n o s in
-      let e = map-scale ls [] n o s in
+      let l = own-lines ls [] n (o .0) s in
+      let e = map-scale ls [] n (o .0) s in
       drew-one (p m e l) (q m e l)
