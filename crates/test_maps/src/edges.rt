@@ -94,6 +94,6 @@ pub(crate) fn heights_agree(map: HintMap, row: &[i32], at: usize) -> bool
 fn height_agrees(lines: &[i32; LINES], len: usize, scale: Fixed, row: &[i32], at: usize) -> bool
     requires { ⌜ (len ≤ maxHints) × (at ≤ 2000) ⌝ }
 {
-    let device = transform(lines, len, scale, test_tables::fixed(row, at));
+    let device = transform(lines, len, scale, test_tables::fixed(row, at), false);
     device.bits == test_tables::number(row, at + 1)
 }
