@@ -44,7 +44,8 @@ module _ (c : tie.In-loop Inv-loop μ-loop) where
       (begin .args .state .scale) (at .loop .rest)) (at .loop .i) (stemIn (begin .args .stems .now) (at .loop .i)) ≡
       placedIn ls ts n (begin .args .state .scale) rest) →
       Inv-loop (begin .args .lines .now) (begin .args .tags .now) (begin .args .start) (begin .args .rest .now)
-      (begin .args .state) (begin .args .zones .now) (begin .args .stems .now) (begin .args .count) (begin .args .start) 0 ls ts rest n
+      (begin .args .state) (begin .args .zones .now) (begin .args .stems .now) (begin .args .count)
+      (begin .args .start) 0 ls ts rest n
       (at .loop .i + 1)
   again ls ts rest n l f = (
     l,

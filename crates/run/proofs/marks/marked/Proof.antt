@@ -23,7 +23,9 @@ use Rattle.run.proofs.marks.marked.Tie as tie
 module _ (s : tie.Start) {m : Marking} (e : s .args .marking ≡ m) (h : Hints) (z : Sizes) (bs : List ℕ)
     (ns is ms : List ℤ) where
   abbrev After : Marking → Type 0
-  After x = Kept (s .args .state) (hintsOf (s .args .state) h (markCall (s .args .script .now) (s .args .from) x)) z bs ns is ms
+  After x =
+      Kept (s .args .state) (hintsOf (s .args .state) h (markCall (s .args .script .now) (s .args .from) x)) z bs ns is
+      ms
 
   told : After m → After (s .args .marking)
   told k = subst After (sym e) k

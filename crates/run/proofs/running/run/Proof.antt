@@ -30,7 +30,8 @@ use Rattle.run.proofs.running.run.Tie as tie
 abbrev Inv-loop : tie.InvT-loop
 Inv-loop script part first n from state out₀ zones mask₀ stems₀ initial₀ map₀ tags₀ sizes₀ pen₀ next₀ at₀ out mask stems
     initial map tags sizes pen next at =
-    Running state script part first n from out₀ mask stems initial map tags sizes pen next at out × ListedZones state zones
+    Running state script part first n from out₀ mask stems initial map tags sizes pen next at out ×
+    ListedZones state zones
 
 abbrev μ-loop : tie.MeasureT-loop
 μ-loop script part first n from state out₀ zones mask₀ stems₀ initial₀ map₀ tags₀ sizes₀ pen₀ next₀ at₀ out mask stems
@@ -89,8 +90,8 @@ module _ (c : tie.After-draw-by-lines Inv-loop μ-loop) where
   abbrev call-turn : tie.At-loop Inv-loop μ-loop
   call-turn = draw-turn asked
 
-  drew : Drew (strokeBy (call-turn .loop .inv .0 .hints .map) (begin call-turn .args .state .scale) (call-turn .loop .pen)
-      (path asked)) (call-turn .loop .pen) (drop (call-turn .loop .next) (call-turn .loop .out))
+  drew : Drew (strokeBy (call-turn .loop .inv .0 .hints .map) (begin call-turn .args .state .scale)
+      (call-turn .loop .pen) (path asked)) (call-turn .loop .pen) (drop (call-turn .loop .next) (call-turn .loop .out))
       (c .draw-by-lines .result) (c .draw-by-lines .last .1 .1 .1 .1 .1 .1 .0)
   drew =
       let k = call-turn .loop .inv .0 .kept .map in
@@ -240,7 +241,8 @@ add-next c =
         arith,
         q .count,
         leb-true (length
-            (strokeBy (l .loop .inv .0 .hints .map) (begin l .args .state .scale) (l .loop .pen) (path (asked d)) .words))
+            (strokeBy (l .loop .inv .0 .hints .map) (begin l .args .state .scale) (l .loop .pen) (path (asked d))
+            .words))
             (length (drop (l .loop .next) (l .loop .out))) (q .fit),
         length-drop (l .loop .next) (l .loop .out),
         l .loop .inv .0 .goes .stands .along .within,
@@ -272,7 +274,8 @@ returns-2 c = turn-done (c .before .loop .inv .0 .goes) (omega arith)
 pub run-spec : {M : Type 1} → statement M
 run-spec =
     tie.close
-    (tie.spec Inv-loop μ-loop (λ c κs. search needs) (λ c κs. search needs) (λ c κs. search needs) loop-holds read-command-requires
+    (tie.spec Inv-loop μ-loop (λ c κs. search needs) (λ c κs. search needs) (λ c κs. search needs) loop-holds
+    read-command-requires
     (λ c. search needs) (λ c κs. search needs) loop-less loop-again marked-requires loop-less-2 loop-again-2
     (λ c. search needs) (λ c κs. search needs) ready-requires loop-less-3 loop-again-3 mul-draw-by-lines
     within within (λ c. search needs) draw-by-lines-requires (λ c. search needs)

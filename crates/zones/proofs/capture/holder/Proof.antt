@@ -43,7 +43,8 @@ tested c =
     let a = at .before .args in
     let zs = zonesIn (a .zones .now) in
     let rest = firstHolding (a .fuzz) (a .bottom) (a .top) (drop (at .loop .i + 1) (take (a .count) zs)) in
-    let z = zone-in (a .zones .now) (at .loop .i) (omega (arith, at .before .pre, c .before .before .loop-test .taken)) ∙
+    let p = c .before .before .loop-test .taken in
+    let z = zone-in (a .zones .now) (at .loop .i) (omega (arith, at .before .pre, p)) ∙
     sym (c .before .zone-at .ensures) in
     sym (at .loop .inv) ∙
     holder-at (a .fuzz) (a .bottom) (a .top) zs (a .count) (room (at .before)) (at .loop .i)

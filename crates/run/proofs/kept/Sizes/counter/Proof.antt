@@ -11,7 +11,11 @@ returns c =
     let m = c .make-map .ensures in
     let a = i .before .before .before .before .args in
     record {
-      build = record { whole = record { all = b .whole .all; named = m .lent .whole .named }; long = m .long; fits = b .fits };
+      build = record {
+        whole = record { all = b .whole .all; named = m .lent .whole .named };
+        long = m .long;
+        fits = b .fits;
+      };
       kept = λ h bs ms k. counter-kept (a .state) h _ bs _ _ ms (a .mask) _ _ _ _ (b .kept h bs ms k) m;
     }
 

@@ -16,7 +16,11 @@ returns c =
     let e = n .new .ensures ∙ twelve-bytes _ (s .pre .0 .twelve) in
     record {
       map = record {
-        build = record { whole = record { all = b .whole .all; named = m .lent .whole .named }; long = m .long; fits = b .fits };
+        build = record {
+          whole = record { all = b .whole .all; named = m .lent .whole .named };
+          long = m .long;
+          fits = b .fits;
+        };
         current = m .lent .whole .all;
         twelve = s .pre .0 .twelve;
       };
