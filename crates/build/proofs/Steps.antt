@@ -13,7 +13,6 @@ use Rattle.stems.specs.declared.edge.Side.{Side}
 use Rattle.stems.specs.declared.edge.Side.the-variants.{Bottom, Top}
 use Rattle.stems.specs.declared.edge.Hint.{Hint}
 use Rattle.stems.specs.Mask.{isActive, cleared}
-use Rattle.stems.specs.declared.edge.Shape.{Shape}
 use Rattle.stems.specs.Edge.{shapeOf, setupOf}
 use Rattle.zones.specs.declared.state.HintState.{HintState}
 use Rattle.zones.specs.declared.capture.Held.{Held}
@@ -24,10 +23,10 @@ use Rattle.zones.proofs.Holding.{capture-keeps}
 use Rattle.hintmap.specs.declared.map.HintMap.{HintMap}
 use Rattle.hintmap.specs.declared.insert.Edges.{Edges}
 use Rattle.hintmap.specs.declared.insert.Edges.the-variants.{One}
-use Rattle.hintmap.specs.Insert.{chosen, Valid, insertIn}
+use Rattle.hintmap.specs.Insert.{chosen, insertIn}
 use Rattle.hintmap.specs.WholeStems.{Made, Like}
 use Rattle.hintmap.proofs.Alike.{like-refl}
-use Rattle.hintmap.proofs.Made.{made-ghost, made-valid, made-like, made-setup}
+use Rattle.hintmap.proofs.Made.{made-ghost, made-like, made-setup}
 use Rattle.build.specs.Place.{Placed}
 use Rattle.build.specs.Ghosts.{ghostAt, emBottom, emTop, emBoxed, uncovered, baselineBy, baselined}
 use Rattle.build.specs.Place.{preparedBy, preparedOf, putBy, lockedBy, lockedTurn, freeBy, freeTurn}
@@ -63,11 +62,6 @@ module _ (st : HintState) (x : StemHint) (i : ℕ) where
   -- so they are a single edge or one stem's two
   pub made-prepared : Made (chosen (shapeOf x) (preparedOf st x i .bottom) (preparedOf st x i .top))
   made-prepared = made-like x i (st .scale) _ _ (prepared-like .0) (prepared-like .1)
-
-  -- and are there, in the words of code that made them so
-  pub valid-prepared : {h : Shape} {c : Captured} {e : Edges} → h ≡ shapeOf x → c ≡ preparedOf st x i →
-      e ≡ chosen h (c .bottom) (c .top) → Valid e
-  valid-prepared p q w = rw (w, p, q) (made-valid _ made-prepared)
 
 -- the em box's ghosts and the baseline's are single edges
 pub made-box-bottom : (s : Fixed) → Made (One (emBottom s))

@@ -50,8 +50,3 @@ module _ (st : StemHint) (i : ℕ) (s : Fixed) where
   -- so are those of the stem
   pub made-setup : Made (chosen (shapeOf st) (setupOf st i s Bottom) (setupOf st i s Top))
   made-setup = made-like _ _ (like-refl _) (like-refl _)
-
-  -- and they are there, in the words of code that made them so
-  pub valid-setup : {h : Shape} {b t : Hint} {e : Edges} → h ≡ shapeOf st → b ≡ setupOf st i s Bottom →
-      t ≡ setupOf st i s Top → e ≡ chosen h b t → Valid e
-  valid-setup p q r w = rw (w, p, q, r) (made-valid _ made-setup)

@@ -7,8 +7,8 @@ use Prim.Native.Nat.{ℕ, zero, suc, _+_, _≤_, _<_}
 use native.Mathlib.Omega.{arith}
 use lib.Dec.{eqb, ltb}
 use lib.IntN.{ℤ, pos}
-use lib.ListN.{length, take, getD, set, length-set}
-use lib.Seq.{getD-set-same, getD-set-other, ext-getD, getD-take, length-take-le, set-getD}
+use lib.ListN.{length, getD, set, length-set}
+use lib.Seq.{getD-set-same, getD-set-other, ext-getD, set-getD}
 use borrow.Author.Tests.{eqb-true, eqb-false, ltb-true, ltb-false}
 use Rattle.fixed.specs.declared.Fixed.{Fixed}
 use Rattle.fixed.specs.Fixed.{fromBits, ZERO, lessF}
@@ -18,7 +18,7 @@ use Rattle.stems.specs.declared.edge.Kind.{Kind}
 use Rattle.stems.specs.declared.edge.Kind.the-variants.{Absent, GhostBottom, GhostTop, PairBottom, PairTop}
 use Rattle.stems.specs.Edge.{noHint}
 use Rattle.stems.specs.Lists.{tabulate, kindAt, kindIn, kindNumber, mark, tagOf, heightIn, deviceIn, scaleIn}
-use Rattle.stems.specs.Lists.{decoded, hintIn, edgesIn, held, Whole, setLine, setLines, setTags, Put, Copied}
+use Rattle.stems.specs.Lists.{decoded, hintIn, edgesIn, Whole, setLine, setLines, setTags, Put, Copied}
 use Rattle.stems.specs.Lists.{stemIn, stemsIn, stemBy, markIf, setStem}
 
 -- an edge with the device height and the scale of another
@@ -258,17 +258,6 @@ module _ (l : List ℤ) (t : List ℕ) (w : Whole l t) where
         rw (edge-in l t i p)
         (put-in l t w i p (heightIn l i) (e .«ds_coord») (e .scale) (getD t i 0) (getD t (96 + i) 0))
 
--- what is held does not look past its length
-pub held-same : (l l′ : List ℤ) (t t′ : List ℕ) (n : ℕ) → n ≤ 96 →
-    ((i : ℕ) → i < n → hintIn l′ t′ i ≡ hintIn l t i) → held l′ t′ n ≡ held l t n
-held-same l l′ t t′ n h f =
-    let a = length-take-le n (edgesIn l t) (omega (arith, edges-long l t)) in
-    let b = length-take-le n (edgesIn l′ t′) (omega (arith, edges-long l′ t′)) in
-    ext-getD noHint _ _ (b ∙ sym a)
-    (λ i m. let k : i < n = omega (arith, b) in
-    getD-take n (edgesIn l′ t′) i noHint k ∙ edge-in l′ t′ i (omega arith) ∙ f i k ∙
-    sym (getD-take n (edgesIn l t) i noHint k ∙ edge-in l t i (omega arith)))
-
 -- ---- stems
 pub stems-long : (l : List ℤ) (n : ℕ) → length (stemsIn l n .list) ≡ 96
 unfolding stemsIn
@@ -301,9 +290,6 @@ module _ (w : ℕ) (l : List ℤ) (i : ℕ) (a b c d e : ℤ) where
       getD-set-other l₄ (w + w + w + w + i) k e (pos 0) n₄ ∙ getD-set-other l₃ (w + w + w + i) k d (pos 0) n₃ ∙
       getD-set-other l₂ (w + w + i) k c (pos 0) n₂ ∙ getD-set-other l₁ (w + i) k b (pos 0) n₁ ∙
       getD-set-other l i k a (pos 0) n₀
-
-  pub five-long : length five ≡ length l
-  five-long = simp length-set
 
   module _ (long : length l ≡ w + w + w + w + w) (p : i < w) where
     pub five-0 : getD five i (pos 0) ≡ a

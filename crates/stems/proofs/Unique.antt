@@ -16,6 +16,7 @@ use Rattle.stems.specs.declared.edge.Hint.{Hint}
 use Rattle.stems.specs.declared.mask.HintMask.{HintMask}
 use Rattle.stems.specs.Mask.{ofBytes}
 use Rattle.stems.specs.Lists.{stemsIn}
+use Rattle.stems.proofs.lists.mark_if.Reads as mark-if-reads
 use Rattle.stems.proofs.edge.StemHint.shape.Reads as shape-reads
 use Rattle.stems.proofs.edge.Hint.none.Reads as none-reads
 use Rattle.stems.proofs.edge.Hint.setup.Reads as setup-reads
@@ -224,3 +225,7 @@ module _ (κs : Lfts 1) (a : ArgsD list.signature κs) (r r′ : ResD list.signa
   pub list-unique : list-reads.Post κs a r x → list-reads.Post κs a r′ x′ →
       stemsIn (now (x .1 .0)) (a .0 .count) ≡ stemsIn (now (x′ .1 .0)) (a .0 .count)
   list-unique p q = p .stems ∙ sym (q .stems)
+
+pub mark-if-unique : (κs : Lfts 0) (is : Bool) (r r′ : Fixed) → mark-if-reads.Post κs (is, tt) r (is, tt) →
+    mark-if-reads.Post κs (is, tt) r′ (is, tt) → r ≡ r′
+mark-if-unique κs is r r′ p q = p ∙ sym q
