@@ -11,14 +11,16 @@
 
 enum { one = SPOONGLACIER_ONE, most_words = 16384, most_masks = 4096, rounds = 25, cannot = 3 };
 enum kind { points, stems, masks, kinds };
+/* How many sizes of each there are, and which of them the others are held against. */
+enum { sizes = 5, middle = 2 };
 
 static const struct {
     const char *name;
-    size_t sizes[5], middle;
+    size_t sizes[sizes];
 } shapes[kinds] = {
-    {"points", {9, 99, 999, 3999, 6900}, 2},
-    {"stems", {4, 8, 24, 48, 96}, 2},
-    {"masks", {1, 10, 100, 500, 1000}, 2},
+    {"points", {9, 99, 999, 3999, 6900}},
+    {"stems", {4, 8, 24, 48, 96}},
+    {"masks", {1, 10, 100, 500, 1000}},
 };
 
 static int32_t commands[most_words], out[SPOONGLACIER_ROOM(most_words)];
@@ -98,16 +100,16 @@ static double least(void) {
 
 int main(void) {
     for (int kind = 0; kind < kinds; kind++) {
-        double unit[5], without;
+        double unit[sizes], without;
         make(kind, 0);
         without = least();
-        for (int i = 0; i < 5; i++) {
+        for (int i = 0; i < sizes; i++) {
             make(kind, shapes[kind].sizes[i]);
             unit[i] = (least() - without) / (double)shapes[kind].sizes[i];
         }
-        for (int i = 0; i < 5; i++)
-            printf("%-7s %6zu  %8.1f ns each, %5.2f of that at %zu\n", shapes[kind].name, shapes[kind].sizes[i], unit[i],
-                   unit[i] / unit[shapes[kind].middle], shapes[kind].sizes[shapes[kind].middle]);
+        for (int i = 0; i < sizes; i++)
+            printf("%-7s %6zu  %8.1f ns each, %5.2f of that at %zu\n", shapes[kind].name, shapes[kind].sizes[i],
+                   unit[i], unit[i] / unit[middle], shapes[kind].sizes[middle]);
     }
     return 0;
 }
