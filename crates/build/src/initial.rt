@@ -35,7 +35,16 @@ pub fn make_initial(
     let boxed = put_em_box(lines, tags, state.do_em_box_hints, state.scale);
     let mut rest = [255u8; HINT_MASK_SIZE];
     let declared = least(count, MAX_HINTS);
-    let placed = place_locked(lines, tags, boxed, &mut rest, state, zones, stems, declared);
+    let placed = place_locked(
+        lines,
+        tags,
+        boxed,
+        &mut rest,
+        state.gauge(),
+        zones,
+        stems,
+        declared,
+    );
     let len = put_baseline(lines, tags, placed, state.scale);
     adjust(lines, tags, len);
     len

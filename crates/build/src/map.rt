@@ -48,7 +48,16 @@ pub fn make_map(
     let boxed = put_em_box(lines, tags, state.do_em_box_hints, state.scale);
     let mut rest = mask.bytes;
     let declared = least(count, MAX_HINTS);
-    let locked = place_locked(lines, tags, boxed, &mut rest, state, zones, stems, declared);
+    let locked = place_locked(
+        lines,
+        tags,
+        boxed,
+        &mut rest,
+        state.gauge(),
+        zones,
+        stems,
+        declared,
+    );
     let scale = state.scale;
     let len = place_free(
         lines,

@@ -13,24 +13,23 @@ use stems::clear_active;
 use stems::is_active;
 use stems::stem_at;
 use zones::Captured;
-use zones::HintState;
+use zones::Gauge;
 use zones::ZONE_NUMBERS;
 ghost use mathlib.Core.Path.{_≡_};
 ghost use Prim.Native.Nat.{_≤_};
 ghost use Rattle.stems.specs.Edge.{maxHints};
 ghost use Rattle.stems.specs.Lists.{stemsIn};
-ghost use Rattle.zones.specs.Numbers.{ListedZones};
+ghost use Rattle.zones.specs.Numbers.{stateIn};
 ghost use Rattle.hintmap.specs.Lent.{Lent};
 ghost use Rattle.build.specs.Place.{preparedOf};
 ghost use Rattle.build.specs.Made.{Locked, Freed};
 
 // From `build`: a stem's edges, and whether they are locked or captured.
-fn prepared(state: HintState, zones: &[i32; ZONE_NUMBERS], stem: StemHint, index: u8) -> Captured
-    requires { ⌜ ListedZones state (now zones) ⌝ }
-    ensures { λ r. ⌜ r ≡ preparedOf state stem index ⌝ }
+fn prepared(gauge: Gauge, zones: &[i32; ZONE_NUMBERS], stem: StemHint, index: u8) -> Captured
+    ensures { λ r. ⌜ r ≡ preparedOf (stateIn gauge (now (zones .entry))) stem index ⌝ }
 {
-    let bottom = Hint::setup(stem, index, state.scale, Side::Bottom);
-    let top = Hint::setup(stem, index, state.scale, Side::Top);
+    let bottom = Hint::setup(stem, index, gauge.scale, Side::Bottom);
+    let top = Hint::setup(stem, index, gauge.scale, Side::Top);
     if bottom.is_locked() {
         return Captured {
             captured: true,
@@ -45,7 +44,7 @@ fn prepared(state: HintState, zones: &[i32; ZONE_NUMBERS], stem: StemHint, index
             top,
         };
     }
-    state.capture_by(zones, bottom, top)
+    gauge.capture_by(zones, bottom, top)
 }
 
 // From `build`: the first round over the stems. An active stem that is locked or captured is put in,
@@ -55,14 +54,14 @@ pub(crate) fn place_locked(
     tags: &mut [u8; TAGS],
     start: usize,
     rest: &mut [u8; HINT_MASK_SIZE],
-    state: HintState,
+    gauge: Gauge,
     zones: &[i32; ZONE_NUMBERS],
     stems: &[i32; STEM_NUMBERS],
     count: usize,
 ) -> usize
-    requires { ⌜ Lent (now lines) (now tags) start × ((count ≤ maxHints) × ListedZones state (now zones)) ⌝ }
-    ensures { λ r. ⌜ Locked state (stemsIn (now (stems .entry)) count) (now (lines .entry)) (now (tags .entry)) start
-        (now (rest .entry)) r (now (lines .exit)) (now (tags .exit)) (now (rest .exit)) ⌝ }
+    requires { ⌜ Lent (now lines) (now tags) start × (count ≤ maxHints) ⌝ }
+    ensures { λ r. ⌜ Locked (stateIn gauge (now (zones .entry))) (stemsIn (now (stems .entry)) count) (now (lines .entry))
+        (now (tags .entry)) start (now (rest .entry)) r (now (lines .exit)) (now (tags .exit)) (now (rest .exit)) ⌝ }
 {
     let mut len = start;
     for i in 0..count {
@@ -70,7 +69,7 @@ pub(crate) fn place_locked(
             continue;
         }
         let stem = stem_at(stems, i);
-        let edges = prepared(state, zones, stem, i as u8);
+        let edges = prepared(gauge, zones, stem, i as u8);
         if !edges.captured {
             continue;
         }

@@ -1,5 +1,5 @@
 -- What a list of numbers holds of zones, and after one is written there. Assumes nothing.
-use mathlib.Core.Path.{_≡_, sym, _∙_}
+use mathlib.Core.Path.{_≡_, sym, ap, _∙_}
 use mathlib.Core.List.{List}
 use Prim.Native.Nat.{ℕ, _+_, _<_}
 use native.Mathlib.Omega.{arith}
@@ -10,8 +10,10 @@ use Rattle.stems.specs.Lists.{markIf}
 use Rattle.stems.proofs.Places.{length-tabulate, getD-tabulate, five-other, five-0, five-1, five-2, five-3, five-4}
 use Rattle.stems.proofs.Places.{mark-is}
 use Rattle.zones.specs.declared.blues.BlueZone.{BlueZone}
+use Rattle.zones.specs.declared.state.HintState.{HintState}
+use Rattle.zones.specs.declared.state.Gauge.{Gauge}
 use Rattle.zones.specs.Zones.{noZone}
-use Rattle.zones.specs.Numbers.{zoneIn, zonesIn, setZone}
+use Rattle.zones.specs.Numbers.{zoneIn, zonesIn, setZone, gaugeOf, stateBy, stateIn, ListedZones}
 
 pub zones-long : (l : List ℤ) → length (zonesIn l) ≡ 12
 unfolding zonesIn
@@ -26,6 +28,10 @@ pub all-zones : (l : List ℤ) (zs : List BlueZone) → length zs ≡ 12 →
     ((j : ℕ) → j < 12 → getD zs j noZone ≡ zoneIn l j) → zonesIn l ≡ zs
 all-zones l zs e f =
     sym (ext-getD noZone _ _ (e ∙ sym (zones-long l)) (λ j m. f j (omega arith) ∙ sym (zone-in l j (omega arith))))
+
+-- a state is that of its numbers and of a list that holds its zones
+pub state-is : (st : HintState) (g : Gauge) (l : List ℤ) → g ≡ gaugeOf st → ListedZones st l → stateIn g l ≡ st
+state-is st g l e z = ap (λ (h : Gauge). stateIn h l) e ∙ ap (stateBy (gaugeOf st)) z
 
 module _ (l : List ℤ) (long : length l ≡ 60) (i : ℕ) (p : i < 12) (z : BlueZone) where
   abbrev m : ℤ

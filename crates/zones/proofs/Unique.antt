@@ -10,13 +10,15 @@ use Rattle.fixed.specs.declared.Fixed.{Fixed}
 use Rattle.stems.specs.declared.edge.Hint.{Hint}
 use Rattle.zones.specs.declared.state.HintParams.{HintParams}
 use Rattle.zones.specs.declared.state.HintState.{HintState}
+use Rattle.zones.specs.declared.state.Gauge.{Gauge}
 use Rattle.zones.specs.declared.capture.Captured.{Captured}
 use Rattle.zones.proofs.state.HintState.new.Reads as new-reads
 use Rattle.zones.specs.Numbers.{zonesIn}
 use Rattle.zones.proofs.state.HintState.capture.Reads as capture-reads
-use Rattle.zones.proofs.state.HintState.capture_by as capture-by
-use Rattle.zones.proofs.state.HintState.capture_by.Kinds as capture-by-kinds
-use Rattle.zones.proofs.state.HintState.capture_by.Reads as capture-by-reads
+use Rattle.zones.proofs.state.Gauge.capture_by as capture-by
+use Rattle.zones.proofs.state.Gauge.capture_by.Kinds as capture-by-kinds
+use Rattle.zones.proofs.state.Gauge.capture_by.Reads as capture-by-reads
+use Rattle.zones.proofs.state.HintState.gauge.Reads as gauge-reads
 use Rattle.zones.proofs.state.HintState.list as list
 use Rattle.zones.proofs.state.HintState.list.Kinds as list-kinds
 use Rattle.zones.proofs.state.HintState.list.Reads as list-reads
@@ -29,6 +31,10 @@ pub capture-unique : (κs : Lfts 0) (st : HintState) (b t : Hint) (r r′ : Capt
     capture-reads.Post κs (st, (b, (t, tt))) r (st, (b, (t, tt))) →
     capture-reads.Post κs (st, (b, (t, tt))) r′ (st, (b, (t, tt))) → r ≡ r′
 capture-unique κs st b t r r′ x y = x ∙ sym y
+
+pub gauge-unique : (κs : Lfts 0) (st : HintState) (r r′ : Gauge) → gauge-reads.Post κs (st, tt) r (st, tt) →
+    gauge-reads.Post κs (st, tt) r′ (st, tt) → r ≡ r′
+gauge-unique κs st r r′ x y = x ∙ sym y
 
 module _ (κs : Lfts 1) (a : ArgsD capture-by.signature κs) (r r′ : ResD capture-by.signature κs)
     (x x′ : AtExit (endedOf 1 capture-by-kinds.ps capture-by-kinds.r) κs) where

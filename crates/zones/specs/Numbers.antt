@@ -1,4 +1,4 @@
--- Zones as numbers in a list: how they lie there, and what is read.
+-- Zones as numbers in a list: how they lie there, what is read, and the state that they are of.
 use mathlib.Core.Path.{_≡_}
 use mathlib.Core.List.{List}
 use Prim.Native.Nat.{ℕ, _+_}
@@ -8,6 +8,7 @@ use Rattle.fixed.specs.Fixed.{fromBits, ZERO, lessF}
 use Rattle.stems.specs.Lists.{tabulate, markIf}
 use Rattle.zones.specs.declared.blues.BlueZone.{BlueZone}
 use Rattle.zones.specs.declared.state.HintState.{HintState}
+use Rattle.zones.specs.declared.state.Gauge.{Gauge}
 use Rattle.zones.specs.Zones.{maxZones}
 
 -- the zone of a mark and four edges
@@ -42,6 +43,39 @@ setZone ns i z =
     (z .«cs_flat_edge» .bits))
     (48 + i)
     (z .«ds_flat_edge» .bits)
+
+-- a state's numbers beside its zones
+abbrev pub gaugeOf : HintState → Gauge
+gaugeOf st =
+    record {
+      scale = st .scale;
+      «blue_scale» = st .«blue_scale»;
+      «blue_shift» = st .«blue_shift»;
+      «blue_fuzz» = st .«blue_fuzz»;
+      «suppress_overshoot» = st .«suppress_overshoot»;
+      «do_em_box_hints» = st .«do_em_box_hints»;
+      boost = st .boost;
+      «zone_count» = st .«zone_count»;
+    }
+
+-- the state of such numbers and zones
+abbrev pub stateBy : Gauge → List BlueZone → HintState
+stateBy g zs =
+    record {
+      scale = g .scale;
+      «blue_scale» = g .«blue_scale»;
+      «blue_shift» = g .«blue_shift»;
+      «blue_fuzz» = g .«blue_fuzz»;
+      «suppress_overshoot» = g .«suppress_overshoot»;
+      «do_em_box_hints» = g .«do_em_box_hints»;
+      boost = g .boost;
+      zones = zs;
+      «zone_count» = g .«zone_count»;
+    }
+
+-- and of those at all places
+abbrev pub stateIn : Gauge → List ℤ → HintState
+stateIn g ns = stateBy g (zonesIn ns)
 
 -- a list that holds the zones of a state
 abbrev pub ListedZones : HintState → List ℤ → Type 0

@@ -3,15 +3,17 @@ use crate::blues::BlueZone;
 use crate::blues::MAX_BLUE_ZONES;
 use crate::numbers::ZONE_NUMBERS;
 use crate::numbers::zone_at;
+use crate::state::Gauge;
 use crate::state::HintState;
 use fixed::Fixed;
 use fixed::least;
 use stems::Hint;
 ghost use mathlib.Core.Path.{_≡_};
+ghost use mathlib.Core.List.{[]};
 ghost use Prim.Native.Nat.{_≤_};
 ghost use lib.ListN.{take};
 ghost use Rattle.zones.specs.Zones.{maxZones};
-ghost use Rattle.zones.specs.Numbers.{zonesIn, ListedZones};
+ghost use Rattle.zones.specs.Numbers.{zonesIn, stateBy, stateIn};
 ghost use Rattle.zones.specs.Capture.{within, holds, firstHolding, bottomGoal, topGoal, captureMove, lifted};
 ghost use Rattle.zones.specs.Capture.{captureOf};
 
@@ -81,11 +83,11 @@ fn holder(zones: &[i32; ZONE_NUMBERS], count: usize, fuzz: Fixed, bottom: Hint, 
     Held::Free
 }
 
-impl HintState {
+impl Gauge {
     // From `capture`: where a bottom edge goes in a bottom zone. An overshoot that is kept and deep
     // enough shows by a whole pixel at least.
     fn bottom_goal(self, zone: BlueZone, edge: Hint) -> Fixed
-        ensures { λ r. ⌜ r ≡ bottomGoal self zone edge ⌝ }
+        ensures { λ r. ⌜ r ≡ bottomGoal (stateBy self []) zone edge ⌝ }
     {
         let flat = zone.ds_flat_edge;
         if self.suppress_overshoot {
@@ -101,7 +103,7 @@ impl HintState {
 
     // From `capture`: where a top edge goes in a top zone, likewise.
     fn top_goal(self, zone: BlueZone, edge: Hint) -> Fixed
-        ensures { λ r. ⌜ r ≡ topGoal self zone edge ⌝ }
+        ensures { λ r. ⌜ r ≡ topGoal (stateBy self []) zone edge ⌝ }
     {
         let flat = zone.ds_flat_edge;
         if self.suppress_overshoot {
@@ -116,7 +118,7 @@ impl HintState {
     }
 
     fn move_by(self, zone: BlueZone, bottom: Hint, top: Hint) -> Fixed
-        ensures { λ r. ⌜ r ≡ captureMove self zone bottom top ⌝ }
+        ensures { λ r. ⌜ r ≡ captureMove (stateBy self []) zone bottom top ⌝ }
     {
         if zone.is_bottom {
             return self.bottom_goal(zone, bottom).sub(bottom.ds_coord);
@@ -126,8 +128,7 @@ impl HintState {
 
     // Ports `HintState::capture`, by a list that holds the zones.
     pub fn capture_by(self, zones: &[i32; ZONE_NUMBERS], bottom: Hint, top: Hint) -> Captured
-        requires { ⌜ ListedZones self (now zones) ⌝ }
-        ensures { λ r. ⌜ r ≡ captureOf self bottom top ⌝ }
+        ensures { λ r. ⌜ r ≡ captureOf (stateIn self (now (zones .entry))) bottom top ⌝ }
     {
         let count = least(self.zone_count, MAX_BLUE_ZONES);
         let held = holder(zones, count, self.blue_fuzz, bottom, top);
@@ -147,13 +148,15 @@ impl HintState {
             },
         }
     }
+}
 
-    // The same by the zones that it has.
+impl HintState {
+    // The same by the zones that a state has.
     pub fn capture(self, bottom: Hint, top: Hint) -> Captured
         ensures { λ r. ⌜ r ≡ captureOf self bottom top ⌝ }
     {
         let mut zones = [0i32; ZONE_NUMBERS];
         self.list(&mut zones);
-        self.capture_by(&zones, bottom, top)
+        self.gauge().capture_by(&zones, bottom, top)
     }
 }

@@ -15,5 +15,6 @@ pub use blues::Zones;
 pub use capture::Captured;
 pub use capture::Held;
 pub use numbers::ZONE_NUMBERS;
+pub use state::Gauge;
 pub use state::HintParams;
 pub use state::HintState;

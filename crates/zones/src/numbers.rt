@@ -2,6 +2,7 @@
 // edge, flat edge, and flat edge on the device. Only this file and its definitions know how they lie.
 use crate::blues::BlueZone;
 use crate::blues::MAX_BLUE_ZONES;
+use crate::state::Gauge;
 use crate::state::HintState;
 use fixed::Fixed;
 use stems::mark_if;
@@ -9,7 +10,7 @@ ghost use mathlib.Core.Path.{_≡_};
 ghost use Prim.Native.Nat.{_<_};
 ghost use lib.ListN.{length, set};
 ghost use Rattle.zones.specs.Zones.{maxZones};
-ghost use Rattle.zones.specs.Numbers.{zoneIn, setZone, ListedZones};
+ghost use Rattle.zones.specs.Numbers.{zoneIn, setZone, gaugeOf, ListedZones};
 
 // How many numbers zones are.
 pub const ZONE_NUMBERS: usize = 60;
@@ -64,6 +65,27 @@ fn put_zone(zones: &mut [i32; ZONE_NUMBERS], i: usize, zone: BlueZone)
 }
 
 impl HintState {
+    // The numbers beside the zones.
+    pub fn gauge(self) -> Gauge
+        ensures { λ r. ⌜ r ≡ gaugeOf self ⌝ }
+    {
+        let scale = self.scale;
+        let blue_scale = self.blue_scale;
+        let blue_shift = self.blue_shift;
+        let blue_fuzz = self.blue_fuzz;
+        let boost = self.boost;
+        Gauge {
+            scale,
+            blue_scale,
+            blue_shift,
+            blue_fuzz,
+            suppress_overshoot: self.suppress_overshoot,
+            do_em_box_hints: self.do_em_box_hints,
+            boost,
+            zone_count: self.zone_count,
+        }
+    }
+
     // The zones as numbers, at every place of a list.
     pub fn list(self, zones: &mut [i32; ZONE_NUMBERS])
         requires { ⌜ length (now zones) ≡ 60 ⌝ }

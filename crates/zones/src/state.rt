@@ -37,6 +37,18 @@ pub struct HintState {
     pub zone_count: usize,
 }
 
+// A state's numbers without its zones, which a list holds beside them.
+pub struct Gauge {
+    pub scale: Fixed,
+    pub blue_scale: Fixed,
+    pub blue_shift: Fixed,
+    pub blue_fuzz: Fixed,
+    pub suppress_overshoot: bool,
+    pub do_em_box_hints: bool,
+    pub boost: Fixed,
+    pub zone_count: usize,
+}
+
 // The em box, from −120.0 to 880.0: the ascent and descent that a font for ideographs has unless it
 // says otherwise.
 const ICF_BOTTOM: Fixed = Fixed { bits: -0x78_0000 };

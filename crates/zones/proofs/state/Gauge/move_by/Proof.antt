@@ -1,8 +1,8 @@
--- `HintState::move_by` meets its contract, by the test of the zone. Assumes nothing.
+-- `Gauge::move_by` meets its contract, by the test of the zone. Assumes nothing.
 use Rattle.zones.specs.Capture.{captureMove}
 use borrow.Author.Needs.{needs}
-use Rattle.zones.proofs.state.HintState.move_by.Statement.{statement}
-use Rattle.zones.proofs.state.HintState.move_by.Tie as tie
+use Rattle.zones.proofs.state.Gauge.move_by.Statement.{statement}
+use Rattle.zones.proofs.state.Gauge.move_by.Tie as tie
 
 bottom-goal-requires : tie.Need-bottom-goal-requires
 bottom-goal-requires c κs = search needs

@@ -1,9 +1,9 @@
--- `HintState::bottom_goal` meets its contract, by its two tests. Assumes nothing.
+-- `Gauge::bottom_goal` meets its contract, by its two tests. Assumes nothing.
 use mathlib.Core.Path.{sym}
 use Rattle.zones.specs.Capture.{bottomGoal}
 use borrow.Author.Needs.{needs}
-use Rattle.zones.proofs.state.HintState.bottom_goal.Statement.{statement}
-use Rattle.zones.proofs.state.HintState.bottom_goal.Tie as tie
+use Rattle.zones.proofs.state.Gauge.bottom_goal.Statement.{statement}
+use Rattle.zones.proofs.state.Gauge.bottom_goal.Tie as tie
 
 returns : tie.Need-returns
 unfolding bottomGoal

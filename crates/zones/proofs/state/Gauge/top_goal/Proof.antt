@@ -1,9 +1,9 @@
--- `HintState::top_goal` meets its contract, by its two tests. Assumes nothing.
+-- `Gauge::top_goal` meets its contract, by its two tests. Assumes nothing.
 use mathlib.Core.Path.{sym}
 use Rattle.zones.specs.Capture.{topGoal}
 use borrow.Author.Needs.{needs}
-use Rattle.zones.proofs.state.HintState.top_goal.Statement.{statement}
-use Rattle.zones.proofs.state.HintState.top_goal.Tie as tie
+use Rattle.zones.proofs.state.Gauge.top_goal.Statement.{statement}
+use Rattle.zones.proofs.state.Gauge.top_goal.Tie as tie
 
 returns : tie.Need-returns
 unfolding topGoal
