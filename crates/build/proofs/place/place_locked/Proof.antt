@@ -11,6 +11,8 @@ use native.Mathlib.Omega.{arith}
 use lib.IntN.{ℤ}
 use Rattle.stems.specs.Mask.{ofBytes, isActive}
 use Rattle.stems.specs.Lists.{stemIn, stemsIn}
+use Rattle.zones.specs.declared.state.HintState.{HintState}
+use Rattle.zones.specs.Numbers.{stateIn}
 use Rattle.hintmap.specs.declared.map.HintMap.{HintMap}
 use Rattle.hintmap.specs.Lent.{Lent}
 use Rattle.build.specs.Place.{lockedTurn, lockedTurns}
@@ -21,13 +23,13 @@ use Rattle.build.proofs.place.place_locked.Statement.{statement}
 use Rattle.build.proofs.place.place_locked.Tie as tie
 
 abbrev Inv-loop : tie.InvT-loop
-Inv-loop lines₀ tags₀ start rest₀ state zones stems count len₀ i₀ lines tags rest len i =
+Inv-loop lines₀ tags₀ start rest₀ gauge zones stems count len₀ i₀ lines tags rest len i =
     Lent lines tags len × ((initial : HintMap) (given : Bool) →
-    Left (lockedTurns state initial given) (stemsIn stems count) count
-    (placedIn lines₀ tags₀ start (state .scale) rest₀) (placedIn lines tags len (state .scale) rest) i)
+    Left (lockedTurns (stateIn gauge zones) initial given) (stemsIn stems count) count
+    (placedIn lines₀ tags₀ start (gauge .scale) rest₀) (placedIn lines tags len (gauge .scale) rest) i)
 
 abbrev μ-loop : tie.MeasureT-loop
-μ-loop lines₀ tags₀ start rest₀ state zones stems count len₀ i₀ lines tags rest len i = count - i
+μ-loop lines₀ tags₀ start rest₀ gauge zones stems count len₀ i₀ lines tags rest len i = count - i
 
 -- ---- the turn of stem i
 module _ (c : tie.In-loop Inv-loop μ-loop) where
@@ -37,19 +39,22 @@ module _ (c : tie.In-loop Inv-loop μ-loop) where
   abbrev begin : tie.Start Inv-loop μ-loop
   begin = at .before
 
+  abbrev st : HintState
+  st = stateIn (begin .args .gauge) (begin .args .zones .now)
+
   -- whatever it leaves, the turns after it are left
   again : (ls : List ℤ) (ts rest : List ℕ) (n : ℕ) → Lent ls ts n →
       ((initial : HintMap) (given : Bool) →
-      lockedTurn (begin .args .state) initial given (placedIn (at .loop .lines) (at .loop .tags) (at .loop .len)
-      (begin .args .state .scale) (at .loop .rest)) (at .loop .i) (stemIn (begin .args .stems .now) (at .loop .i)) ≡
-      placedIn ls ts n (begin .args .state .scale) rest) →
+      lockedTurn st initial given (placedIn (at .loop .lines) (at .loop .tags) (at .loop .len) (st .scale)
+      (at .loop .rest)) (at .loop .i) (stemIn (begin .args .stems .now) (at .loop .i)) ≡
+      placedIn ls ts n (st .scale) rest) →
       Inv-loop (begin .args .lines .now) (begin .args .tags .now) (begin .args .start) (begin .args .rest .now)
-      (begin .args .state) (begin .args .zones .now) (begin .args .stems .now) (begin .args .count)
+      (begin .args .gauge) (begin .args .zones .now) (begin .args .stems .now) (begin .args .count)
       (begin .args .start) 0 ls ts rest n
       (at .loop .i + 1)
   again ls ts rest n l f = (
     l,
-    λ initial given. round-goes (locked-round (begin .args .state) initial given) _ _ (begin .pre .1 .0) _ _ _ _
+    λ initial given. round-goes (locked-round st initial given) _ _ (begin .pre .1) _ _ _ _
         (search needs) (at .loop .inv .1 initial given) (f initial given),
   )
 
@@ -60,8 +65,11 @@ active : (c : tie.Else1 Inv-loop μ-loop) →
 active c = (omega arith, sym (c .before .is-active .ensures) ∙ not-false _ (c .if1 .left))
 
 loop-holds : tie.Need-loop-holds Inv-loop μ-loop
-loop-holds c =
-    (c .pre .0, λ initial given. round-starts (locked-round (c .args .state) initial given) _ _ (c .pre .1 .0) _)
+loop-holds c = (
+  c .pre .0,
+  λ initial given. round-starts (locked-round (stateIn (c .args .gauge) (c .args .zones .now)) initial given) _ _
+      (c .pre .1) _,
+)
 
 loop-again : tie.Need-loop-again Inv-loop μ-loop
 loop-again c =
@@ -103,10 +111,11 @@ loop-again-3 c =
 returns : tie.Need-returns Inv-loop μ-loop
 returns c =
     let at = c .before in
+    let a = at .before .args in
     record {
       lent = at .loop .inv .0;
-      placed = λ initial given. round-ends (locked-round (at .before .args .state) initial given) _ _
-          (at .before .pre .1 .0) _ _ (at .loop .i) (search needs) (at .loop .inv .1 initial given);
+      placed = λ initial given. round-ends (locked-round (stateIn (a .gauge) (a .zones .now)) initial given) _ _
+          (at .before .pre .1) _ _ (at .loop .i) (search needs) (at .loop .inv .1 initial given);
     }
 
 pub place-locked-spec : {M : Type 1} → statement M
