@@ -44,5 +44,5 @@ returns c =
 pub make-map-spec : {M : Type 1} → statement M
 make-map-spec =
     tie.close
-    (tie.spec (λ c κs. search needs) (λ c κs. search needs) (λ c κs. search needs) place-locked-requires place-free-requires
-    (λ c κs. search needs) save-all-requires returns)
+    (tie.spec (λ c κs. search needs) (λ c κs. search needs) (λ c κs. search needs) place-locked-requires
+    place-free-requires (λ c κs. search needs) save-all-requires returns)
