@@ -1,4 +1,6 @@
 //! Runs the same scripts through the static library and through the Rust, in turn, and prints the ratio of their times.
+//! Ours is held against one way of running the Rust at a time: they share the hinter's code, and one that came after
+//! another on the same scripts would find every branch foretold, where ours comes after theirs alone.
 //!     driver [ROUNDS]        the ratios
 //!     driver only SHAPE N    N turns of one shape (0 to 2) through the static library alone, for a profiler
 
@@ -67,26 +69,21 @@ fn range(counts: impl Iterator<Item = usize> + Clone) -> String {
     format!("{} to {}", counts.clone().min().unwrap(), counts.max().unwrap())
 }
 
-/// Which side comes at a turn of a round: each comes first in its time, and every other round goes backwards.
-fn order(round: usize, turn: usize) -> usize {
-    let turn = if round % 2 == 0 { turn } else { SIDES.len() - 1 - turn };
-    (turn + round / 2) % SIDES.len()
-}
-
-/// Nanoseconds of every side for each block of scripts, round after round.
-fn measure(cases: &[Case], block: usize, rounds: usize) -> Vec<Vec<Vec<u64>>> {
+/// Nanoseconds of ours and of another side for each block of scripts, round after round. The two take turns, and each
+/// comes first in every other round.
+fn measure(cases: &[Case], block: usize, rounds: usize, other: usize) -> [Vec<Vec<u64>>; 2] {
     let blocks: Vec<&[Case]> = cases.chunks(block).collect();
     let mut out = vec![0; cases.iter().map(|case| case.room).max().unwrap()];
-    let mut times = vec![vec![Vec::with_capacity(rounds); blocks.len()]; SIDES.len()];
+    let mut times = [(); 2].map(|()| vec![Vec::with_capacity(rounds); blocks.len()]);
     for round in 0..rounds {
         for (number, block) in blocks.iter().enumerate() {
-            for turn in 0..SIDES.len() {
-                let side = order(round, turn);
+            for turn in 0..2 {
+                let which = (turn + round) % 2;
                 let start = Instant::now();
                 for case in *block {
-                    black_box(run(side, black_box(case), &mut out));
+                    black_box(run(which * other, black_box(case), &mut out));
                 }
-                times[side][number].push(start.elapsed().as_nanos() as u64);
+                times[which][number].push(start.elapsed().as_nanos() as u64);
             }
         }
     }
@@ -109,7 +106,6 @@ fn ratios(rounds: usize) {
         let bytes: Vec<Vec<u8>> = shape.scripts.iter().map(|script| script.bytes()).collect();
         let cases = cases(&shape, &bytes);
         let scripts = &shape.scripts;
-        let all_points: usize = scripts.iter().map(points).sum();
         println!(
             "{}: {} scripts, {} points, {} stems, {} masks",
             shape.name,
@@ -122,17 +118,14 @@ fn ratios(rounds: usize) {
             println!("    the sides answer differently");
             std::process::exit(1);
         }
-        measure(&cases, shape.block, rounds / 10 + 1);
-        let mut times = measure(&cases, shape.block, rounds);
-        let sums: Vec<[f64; 2]> = times.iter_mut().map(|blocks| least_and_middle(blocks)).collect();
-        println!("    {:32}{:>12}{:>12}{:>16}{:>16}", "", "ns/script", "ns/point", "ratio, least", "ratio, median");
-        for (side, sum) in sums.iter().enumerate() {
-            print!("    {:32}", SIDES[side]);
-            print!("{:12.0}{:12.1}", sum[0] / scripts.len() as f64, sum[0] / all_points as f64);
-            if side > 0 {
-                print!("{:16.2}{:16.2}", sums[0][0] / sum[0], sums[0][1] / sum[1]);
-            }
-            println!();
+        println!("    {:32}{:>12}{:>12}{:>16}{:>16}", "", "ns/script", "ours", "ratio, least", "ratio, median");
+        for (other, name) in SIDES.iter().enumerate().skip(1) {
+            measure(&cases, shape.block, rounds / 10 + 1, other);
+            let [ours, theirs] =
+                measure(&cases, shape.block, rounds, other).map(|mut blocks| least_and_middle(&mut blocks));
+            let each = |least: f64| least / scripts.len() as f64;
+            print!("    {:32}{:12.0}{:12.0}", name, each(theirs[0]), each(ours[0]));
+            println!("{:16.2}{:16.2}", ours[0] / theirs[0], ours[1] / theirs[1]);
         }
     }
 }
