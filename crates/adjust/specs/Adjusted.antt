@@ -3,8 +3,10 @@ use mathlib.Core.Path.{_≡_}
 use mathlib.Core.List.{List, map}
 use Prim.Native.Nat.{ℕ}
 use lib.IntN.{ℤ}
+use lib.ListN.{length}
 use Rattle.fixed.specs.declared.Fixed.{Fixed}
 use Rattle.fixed.specs.Fixed.{fromBits}
+use Rattle.stems.specs.Edge.{maxHints}
 use Rattle.hintmap.specs.Lent.{mapIn, Lent}
 use Rattle.adjust.specs.Pass.{Notes}
 use Rattle.adjust.specs.Second.{secondPass, adjustOf}
@@ -18,7 +20,8 @@ pub record Retried (ls : List ℤ) (ts : List ℕ) (n : ℕ) (at : List ℕ) (by
   pub lent : Lent ls′ ts n
   pub map : (s : Fixed) → mapIn ls′ ts n s ≡ secondPass k (notesIn at by k) (mapIn ls ts n s)
 
--- the map is adjusted, whatever its scale
-pub record Adjusted (ls : List ℤ) (ts : List ℕ) (n : ℕ) (ls′ : List ℤ) : Type 0 where
+-- the map is adjusted, whatever its scale; the list that was lent for moves stays as long as it was
+pub record Adjusted (ls : List ℤ) (ts : List ℕ) (n : ℕ) (ls′ by′ : List ℤ) : Type 0 where
   pub lent : Lent ls′ ts n
   pub map : (s : Fixed) → mapIn ls′ ts n s ≡ adjustOf (mapIn ls ts n s)
+  pub long : length by′ ≡ maxHints

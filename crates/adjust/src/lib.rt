@@ -9,6 +9,7 @@ use stems::edge_at;
 use stems::put_line;
 ghost use mathlib.Core.Path.{_≡_};
 ghost use Prim.Native.Nat.{_-_, _<_, _≤_};
+ghost use lib.ListN.{length};
 ghost use Rattle.stems.specs.Edge.{maxHints, isPair};
 ghost use Rattle.adjust.specs.Adjust.{toNext, movesOf, besideBy, roomUp, roomDown, choiceOf, noteOf, movedHint};
 ghost use Rattle.adjust.specs.Adjust.{settleOf, rescaledHint};
@@ -290,13 +291,13 @@ fn second_pass(
 }
 
 // Ports `adjust`, in the lists of a map. The first pass goes upward over the hints and does not look
-// ahead: what it leaves short is noted for the second.
-pub fn adjust(lines: &mut [i32; LINES], tags: &[u8; TAGS], len: usize)
-    requires { ⌜ Lent (now lines) (now tags) len ⌝ }
-    ensures { λ r. ⌜ Adjusted (now (lines .entry)) (now (tags .entry)) len (now (lines .exit)) ⌝ }
+// ahead: what it leaves short is noted for the second. The moves of the notes go into `by`, whatever
+// lies there.
+pub fn adjust(lines: &mut [i32; LINES], tags: &[u8; TAGS], len: usize, by: &mut [i32; MAX_HINTS])
+    requires { ⌜ Lent (now lines) (now tags) len × (length (now by) ≡ maxHints) ⌝ }
+    ensures { λ r. ⌜ Adjusted (now (lines .entry)) (now (tags .entry)) len (now (lines .exit)) (now (by .exit)) ⌝ }
 {
     let mut at = [0u8; MAX_HINTS];
-    let mut by = [0i32; MAX_HINTS];
     let mut count: usize = 0;
     let mut i: usize = 0;
     while i < len {
@@ -325,5 +326,5 @@ pub fn adjust(lines: &mut [i32; LINES], tags: &[u8; TAGS], len: usize)
             }
         }
     }
-    second_pass(lines, tags, len, &at, &by, count);
+    second_pass(lines, tags, len, &at, by, count);
 }
