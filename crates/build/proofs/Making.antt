@@ -59,12 +59,12 @@ module _ (st : HintState) (ns : List ℤ) (count k : ℕ) (e : k ≡ min count 9
       ap (λ (m : HintMap). lockedTurns st initial given 0 (declaredIn ss) (record { map = m; rest = ofBytes mask }))
       (b .map initial given)
 
-  pub initial-is : (n₁ n₂ n₃ : ℕ) (l₁ l₂ l₃ l₄ : List ℤ) (t₁ t₂ t₃ rest : List ℕ) →
+  pub initial-is : (n₁ n₂ n₃ : ℕ) (l₁ l₂ l₃ l₄ : List ℤ) (t₁ t₂ t₃ rest : List ℕ) (by : List ℤ) →
       Boxed (st .«do_em_box_hints») s n₁ l₁ t₁ →
       Locked st (stemsIn ns k) l₁ t₁ n₁ (replicate 12 255) n₂ l₂ t₂ rest → Baselined l₂ t₂ n₂ s n₃ l₃ t₃ →
-      Adjusted l₃ t₃ n₃ l₄ → MadeInitial st ss n₃ l₄ t₃
+      Adjusted l₃ t₃ n₃ l₄ by → MadeInitial st ss n₃ l₄ t₃
   unfolding initialOf
-  initial-is n₁ n₂ n₃ l₁ l₂ l₃ l₄ t₁ t₂ t₃ rest b l c a =
+  initial-is n₁ n₂ n₃ l₁ l₂ l₃ l₄ t₁ t₂ t₃ rest by b l c a =
       let p = locked-is (newMap s) false (replicate 12 255) n₁ n₂ l₁ l₂ t₁ t₂ rest b l in
       record {
         lent = a .lent;
@@ -74,12 +74,12 @@ module _ (st : HintState) (ns : List ℤ) (count k : ℕ) (e : k ≡ min count 9
       }
 
   pub map-is : (mask : HintMask) (base : List ℤ) (size : ℕ) (s₀ : Fixed) (n₁ n₂ n₃ : ℕ) (l₁ l₂ l₃ l₄ : List ℤ)
-      (t₁ t₂ t₃ rest : List ℕ) (ns′ : List ℤ) → Boxed (st .«do_em_box_hints») s n₁ l₁ t₁ →
+      (t₁ t₂ t₃ rest : List ℕ) (ns′ by : List ℤ) → Boxed (st .«do_em_box_hints») s n₁ l₁ t₁ →
       Locked st (stemsIn ns k) l₁ t₁ n₁ (mask .bytes) n₂ l₂ t₂ rest →
-      Freed s (stemsIn ns k) l₂ t₂ n₂ rest base size s₀ n₃ l₃ t₃ → Adjusted l₃ t₃ n₃ l₄ → SavedIn ns l₄ t₃ n₃ ns′ →
+      Freed s (stemsIn ns k) l₂ t₂ n₂ rest base size s₀ n₃ l₃ t₃ → Adjusted l₃ t₃ n₃ l₄ by → SavedIn ns l₄ t₃ n₃ ns′ →
       MadeMap st mask ns count base size s₀ n₃ l₄ t₃ ns′
   unfolding builtOf
-  map-is mask base size s₀ n₁ n₂ n₃ l₁ l₂ l₃ l₄ t₁ t₂ t₃ rest ns′ b l f a v =
+  map-is mask base size s₀ n₁ n₂ n₃ l₁ l₂ l₃ l₄ t₁ t₂ t₃ rest ns′ by b l f a v =
       record {
         lent = a .lent;
         long = v .long;

@@ -36,19 +36,19 @@ module _ (κs : Lfts 0) (st : HintState) (ss : Stems) where
   build-map-unique mask initial r r′ p q = p ∙ sym q
 
 -- the length, and the map that the lists hold
-module _ (κs : Lfts 4) (a : ArgsD make-initial.signature κs) (r r′ : ResD make-initial.signature κs)
-    (x x′ : AtExit (endedOf 4 make-initial-kinds.ps make-initial-kinds.r) κs) where
+module _ (κs : Lfts 5) (a : ArgsD make-initial.signature κs) (r r′ : ResD make-initial.signature κs)
+    (x x′ : AtExit (endedOf 5 make-initial-kinds.ps make-initial-kinds.r) κs) where
   pub make-initial-unique : make-initial-reads.Post κs a r x → make-initial-reads.Post κs a r′ x′ →
       (r ≡ r′) × (mapIn (now (x .0)) (now (x .1 .0)) r (a .1 .1 .0 .scale) ≡
       mapIn (now (x′ .0)) (now (x′ .1 .0)) r′ (a .1 .1 .0 .scale))
   unfolding mapIn
   make-initial-unique p q =
-      let same = p .map ∙ sym (q .map) in
+      let same = p .0 .map ∙ sym (q .0 .map) in
       (ap (λ (m : HintMap). m .len) same, ap invalidMap same)
 
 -- the length, the map and the stems that the lists hold, by a map that has the initial lines
-module _ (κs : Lfts 5) (a : ArgsD make-map.signature κs) (r r′ : ResD make-map.signature κs)
-    (x x′ : AtExit (endedOf 5 make-map-kinds.ps make-map-kinds.r) κs) where
+module _ (κs : Lfts 6) (a : ArgsD make-map.signature κs) (r r′ : ResD make-map.signature κs)
+    (x x′ : AtExit (endedOf 6 make-map-kinds.ps make-map-kinds.r) κs) where
   pub make-map-unique : make-map-reads.Pre κs a → make-map-reads.Post κs a r x → make-map-reads.Post κs a r′ x′ →
       (r ≡ r′) × ((mapIn (now (x .0)) (now (x .1 .0)) r (a .1 .1 .0 .scale) ≡
       mapIn (now (x′ .0)) (now (x′ .1 .0)) r′ (a .1 .1 .0 .scale)) ×
@@ -62,7 +62,7 @@ module _ (κs : Lfts 5) (a : ArgsD make-map.signature κs) (r r′ : ResD make-m
       let i = mapIn ls [] n s in
       let l = own-lines ls [] n (o .0 .initial) s in
       let e = map-scale ls [] n (o .0 .initial) s in
-      let same = p .built i e l ∙ sym (q .built i e l) in (
+      let same = p .0 .built i e l ∙ sym (q .0 .built i e l) in (
         ap (λ (b : Built). b .map .len) same,
         (ap (λ (b : Built). invalidMap (b .map)) same, ap (λ (b : Built). b .stems) same),
       )

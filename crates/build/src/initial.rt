@@ -14,13 +14,15 @@ use stems::TAGS;
 use zones::HintState;
 use zones::ZONE_NUMBERS;
 ghost use mathlib.Core.Path.{_≡_};
+ghost use lib.ListN.{length};
+ghost use Rattle.stems.specs.Edge.{maxHints};
 ghost use Rattle.stems.specs.Lists.{Whole, stemsIn};
 ghost use Rattle.zones.specs.Numbers.{ListedZones};
 ghost use Rattle.build.specs.Build.{initialOf};
 ghost use Rattle.build.specs.Made.{MadeInitial};
 
 // Ports `build` where it is the initial map's, into lists: all stems that are locked or captured, and
-// the baseline. Gives the map's length.
+// the baseline. The adjustment has `notes` for its own. Gives the map's length.
 pub fn make_initial(
     lines: &mut [i32; LINES],
     tags: &mut [u8; TAGS],
@@ -28,9 +30,12 @@ pub fn make_initial(
     zones: &[i32; ZONE_NUMBERS],
     stems: &[i32; STEM_NUMBERS],
     count: usize,
+    notes: &mut [i32; MAX_HINTS],
 ) -> usize
-    requires { ⌜ Whole (now lines) (now tags) × ListedZones state (now zones) ⌝ }
-    ensures { λ r. ⌜ MadeInitial state (stemsIn (now (stems .entry)) count) r (now (lines .exit)) (now (tags .exit)) ⌝ }
+    requires { ⌜ Whole (now lines) (now tags) ×
+        (ListedZones state (now zones) × (length (now notes) ≡ maxHints)) ⌝ }
+    ensures { λ r. ⌜ MadeInitial state (stemsIn (now (stems .entry)) count) r (now (lines .exit)) (now (tags .exit)) ×
+        (length (now (notes .exit)) ≡ maxHints) ⌝ }
 {
     let boxed = put_em_box(lines, tags, state.do_em_box_hints, state.scale);
     let mut rest = [255u8; HINT_MASK_SIZE];
@@ -46,7 +51,7 @@ pub fn make_initial(
         declared,
     );
     let len = put_baseline(lines, tags, placed, state.scale);
-    adjust(lines, tags, len);
+    adjust(lines, tags, len, notes);
     len
 }
 
@@ -60,6 +65,15 @@ pub fn build_initial(state: HintState, stems: Stems) -> HintMap
     state.list(&mut zones);
     let mut lines = [0i32; LINES];
     let mut tags = [0u8; TAGS];
-    let len = make_initial(&mut lines, &mut tags, state, &zones, &numbers, stems.count);
+    let mut notes = [0i32; MAX_HINTS];
+    let len = make_initial(
+        &mut lines,
+        &mut tags,
+        state,
+        &zones,
+        &numbers,
+        stems.count,
+        &mut notes,
+    );
     HintMap::from_lists(&lines, &tags, len, state.scale).validate()
 }

@@ -16,6 +16,8 @@ use stems::TAGS;
 use zones::HintState;
 use zones::ZONE_NUMBERS;
 ghost use mathlib.Core.Path.{_≡_};
+ghost use lib.ListN.{length};
+ghost use Rattle.stems.specs.Edge.{maxHints};
 ghost use Rattle.zones.specs.Numbers.{ListedZones};
 ghost use Rattle.build.specs.Build.{builtOf};
 ghost use Rattle.build.specs.Made.{Makable, MadeMap};
@@ -28,7 +30,7 @@ pub struct Built {
 
 // Ports `build` where it is not the initial map's, into lists: active stems that are locked or
 // captured, then those that are left, placed by the lines of the initial map. The heights of its
-// edges are saved in the stems. Gives the map's length.
+// edges are saved in the stems. The adjustment has `notes` for its own. Gives the map's length.
 pub fn make_map(
     lines: &mut [i32; LINES],
     tags: &mut [u8; TAGS],
@@ -40,10 +42,12 @@ pub fn make_map(
     initial: &[i32; LINES],
     size: usize,
     base: Fixed,
+    notes: &mut [i32; MAX_HINTS],
 ) -> usize
-    requires { ⌜ Makable (now lines) (now tags) (now stems) size × ListedZones state (now zones) ⌝ }
+    requires { ⌜ Makable (now lines) (now tags) (now stems) size ×
+        (ListedZones state (now zones) × (length (now notes) ≡ maxHints)) ⌝ }
     ensures { λ r. ⌜ MadeMap state mask (now (stems .entry)) count (now (initial .entry)) size base r
-        (now (lines .exit)) (now (tags .exit)) (now (stems .exit)) ⌝ }
+        (now (lines .exit)) (now (tags .exit)) (now (stems .exit)) × (length (now (notes .exit)) ≡ maxHints) ⌝ }
 {
     let boxed = put_em_box(lines, tags, state.do_em_box_hints, state.scale);
     let mut rest = mask.bytes;
@@ -71,7 +75,7 @@ pub fn make_map(
         size,
         base,
     );
-    adjust(lines, tags, len);
+    adjust(lines, tags, len, notes);
     save_all(stems, lines, tags, len);
     len
 }
@@ -89,6 +93,7 @@ pub fn build_map(state: HintState, mask: HintMask, stems: Stems, initial: HintMa
     initial.list(&mut base, &mut base_tags);
     let mut lines = [0i32; LINES];
     let mut tags = [0u8; TAGS];
+    let mut notes = [0i32; MAX_HINTS];
     let size = least(initial.len, MAX_HINTS);
     let len = make_map(
         &mut lines,
@@ -101,6 +106,7 @@ pub fn build_map(state: HintState, mask: HintMask, stems: Stems, initial: HintMa
         &base,
         size,
         initial.scale,
+        &mut notes,
     );
     let map = HintMap::from_lists(&lines, &tags, len, state.scale).validate();
     Built {

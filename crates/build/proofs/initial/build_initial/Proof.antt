@@ -10,9 +10,9 @@ returns : tie.Need-returns
 returns c =
     let f = c .before in
     let m = f .before .before .before in
-    let l = m .before .before .before .before .before .before .before in
+    let l = m .before .before .before .before .before .before .before .before in
     let a = l .before .before .args in
-    c .validate .ensures ∙ ap validMap (f .from-lists .ensures) ∙ m .make-initial .ensures .map ∙
+    c .validate .ensures ∙ ap validMap (f .from-lists .ensures) ∙ m .make-initial .ensures .0 .map ∙
     ap (initialOf (a .state)) (l .list .ensures .stems)
 
 pub build-initial-spec : {M : Type 1} → statement M

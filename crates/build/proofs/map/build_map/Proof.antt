@@ -1,6 +1,7 @@
 -- `build_map` meets its contract: lists hold the stems, and both maps. Assumes nothing.
 use borrow.Author.Needs.{needs}
 use mathlib.Core.Path.{_≡_, refl, ap, _∙_}
+use native.Mathlib.Omega.{arith}
 use Rattle.stems.specs.declared.edge.Stems.{Stems}
 use Rattle.hintmap.specs.declared.map.HintMap.{HintMap}
 use Rattle.hintmap.specs.Map.{validMap}
@@ -16,18 +17,30 @@ both : (m m′ : HintMap) (ss ss′ : Stems) → m ≡ m′ → ss ≡ ss′ →
     _≡_ {A = Built} (record { map = m; stems = ss }) (record { map = m′; stems = ss′ })
 both m m′ ss ss′ p q = rw (p, q)
 
+make-map-requires : tie.Need-make-map-requires
+make-map-requires c κs =
+    let k = c .before .before .before .before .before .before in
+    let z = k .before .before .before .before in (
+      record {
+        whole = search needs;
+        long = z .before .before .list .ensures .long;
+        initial = omega (arith, k .least .ensures);
+      },
+      (z .list2 .ensures, refl),
+    )
+
 returns : tie.Need-returns
 returns c =
     let v = c .before .before in
     let f = v .before in
     let m = f .before .before .before in
-    let k = m .before .before .before .before .before .before in
+    let k = m .before .before .before .before .before .before .before in
     let i = k .before in
     let l = i .before .before .before .before .before in
     let s = l .before .before in
     let a = s .args in
     both _ _ _ _ (v .validate .ensures ∙ ap validMap (f .from-lists .ensures)) (c .from-list .ensures) ∙
-    m .make-map .ensures .built (a .initial) refl
+    m .make-map .ensures .0 .built (a .initial) refl
     (listed-lines (a .initial) _ _ _ (held-long (a .initial) (s .good .1 .1 .1 .0 .1 .1 .0 .1 .0 .1))
     (i .list3 .ensures) (k .least .ensures)) ∙
     ap (builtOf (a .state) (a .mask) (a .initial)) (l .list .ensures .stems)
@@ -36,5 +49,4 @@ pub build-map-spec : {M : Type 1} → statement M
 build-map-spec =
     tie.close
     (tie.spec (λ c κs. search needs) (λ c κs. search needs) (λ c κs. search needs) (λ c κs. search needs)
-    (λ c κs. search needs)
-    (λ c κs. search needs) (λ c κs. search needs) (λ c κs. search needs) returns)
+    make-map-requires (λ c κs. search needs) (λ c κs. search needs) (λ c κs. search needs) returns)

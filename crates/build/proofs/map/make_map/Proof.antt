@@ -19,30 +19,38 @@ place-free-requires c κs =
       (omega (arith, l .least .ensures), l .before .before .before .before .before .pre .0 .initial),
     )
 
+adjust-requires : tie.Need-adjust-requires
+adjust-requires c κs =
+    let f = c .before .before .before in
+    let l = f .before .before .before .before .before .before .before .before .before .before .before .before in
+    (f .place-free .ensures .lent, l .before .before .before .before .before .pre .1 .1)
+
 save-all-requires : tie.Need-save-all-requires
 save-all-requires c κs =
     let d = c .before .before .before in
-    let p = d .before .before .before .before .before .before .before .before .before in
+    let p = d .before .before .before .before .before .before .before .before .before .before in
     let x = p .before .before .before .before .before .before .before .before in
     (x .before .before .before .pre .0 .long, d .adjust .ensures .lent .fits)
 
 returns : tie.Need-returns
 returns c =
     let d = c .before .before .before .before in
-    let f = d .before .before .before in
+    let f = d .before .before .before .before in
     let p = f .before .before .before .before .before .before in
     let g = p .before .before in
     let l = g .before .before .before .before in
     let x = l .before .before in
     let start = x .before .before .before in
-    let a = start .args in
-    map-is (a .state) (a .stems .now) (a .count) (l .least .result) (l .least .ensures) (a .mask) _ _ _ _ _ _ _ _ _ _ _
-    _ _ _ _ (x .put-em-box .ensures)
-    (locked-of (state-is (a .state) _ _ (g .gauge .ensures) (start .pre .1)) (p .place-locked .ensures))
-    (f .place-free .ensures) (d .adjust .ensures) (c .save-all .ensures)
+    let a = start .args in (
+      map-is (a .state) (a .stems .now) (a .count) (l .least .result) (l .least .ensures) (a .mask) _ _ _ _ _ _ _ _ _ _ _
+          _ _ _ _ _ (x .put-em-box .ensures)
+          (locked-of (state-is (a .state) _ _ (g .gauge .ensures) (start .pre .1 .0)) (p .place-locked .ensures))
+          (f .place-free .ensures) (d .adjust .ensures) (c .save-all .ensures),
+      d .adjust .ensures .long,
+    )
 
 pub make-map-spec : {M : Type 1} → statement M
 make-map-spec =
     tie.close
     (tie.spec (λ c κs. search needs) (λ c κs. search needs) (λ c κs. search needs) place-locked-requires
-    place-free-requires (λ c κs. search needs) save-all-requires returns)
+    place-free-requires adjust-requires save-all-requires returns)
