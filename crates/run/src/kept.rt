@@ -1,5 +1,5 @@
 // The hints of a run, kept in lists: its stems, the present mask and the lines of both maps. A command
-// changes them where they lie.
+// changes them where they lie. Tags and notes are lent for a build, and mean nothing between two.
 use build::make_initial;
 use build::make_map;
 use fixed::Fixed;
@@ -114,15 +114,17 @@ impl Sizes {
         state: HintState,
         zones: &[i32; ZONE_NUMBERS],
         stems: &[i32; STEM_NUMBERS],
+        notes: &mut [i32; MAX_HINTS],
     ) -> Sizes
-        requires { ⌜ Whole (now initial) (now tags) × ((self .initial ≤ maxHints) × ListedZones state (now zones)) ⌝ }
+        requires { ⌜ Whole (now initial) (now tags) × ((self .initial ≤ maxHints) ×
+            (ListedZones state (now zones) × (length (now notes) ≡ maxHints))) ⌝ }
         ensures { λ r. ⌜ Based state self (now (initial .entry)) (now (stems .entry)) r (now (initial .exit))
-            (now (tags .exit)) ⌝ }
+            (now (tags .exit)) × (length (now (notes .exit)) ≡ maxHints) ⌝ }
     {
         if self.based {
             return self;
         }
-        let len = make_initial(initial, tags, state, zones, stems, self.stems);
+        let len = make_initial(initial, tags, state, zones, stems, self.stems, notes);
         let mut sizes = self;
         sizes.initial = len;
         sizes.based = true;
@@ -138,12 +140,14 @@ impl Sizes {
         zones: &[i32; ZONE_NUMBERS],
         mask: HintMask,
         stems: &mut [i32; STEM_NUMBERS],
+        notes: &mut [i32; MAX_HINTS],
     ) -> Sizes
-        requires { ⌜ Buildable self (now initial) (now tags) (now stems) × ListedZones state (now zones) ⌝ }
+        requires { ⌜ Buildable self (now initial) (now tags) (now stems) ×
+            (ListedZones state (now zones) × (length (now notes) ≡ maxHints)) ⌝ }
         ensures { λ r. ⌜ Countered state mask self (now (initial .entry)) (now (stems .entry)) r (now (initial .exit))
-            (now (tags .exit)) (now (stems .exit)) ⌝ }
+            (now (tags .exit)) (now (stems .exit)) × (length (now (notes .exit)) ≡ maxHints) ⌝ }
     {
-        let sizes = self.with_initial(initial, tags, state, zones, stems);
+        let sizes = self.with_initial(initial, tags, state, zones, stems, notes);
         let mut thrown = [0i32; LINES];
         make_map(
             &mut thrown,
@@ -156,6 +160,7 @@ impl Sizes {
             initial,
             sizes.initial,
             state.scale,
+            notes,
         );
         sizes
     }
@@ -170,13 +175,15 @@ impl Sizes {
         zones: &[i32; ZONE_NUMBERS],
         mask: &[u8; HINT_MASK_SIZE],
         stems: &mut [i32; STEM_NUMBERS],
+        notes: &mut [i32; MAX_HINTS],
     ) -> Sizes
         requires { ⌜ Mappable self (now map) (now initial) (now tags) (now stems) (now mask) ×
-            ListedZones state (now zones) ⌝ }
+            (ListedZones state (now zones) × (length (now notes) ≡ maxHints)) ⌝ }
         ensures { λ r. ⌜ Readied state self (now (initial .entry)) (now (mask .entry)) (now (stems .entry)) r
-            (now (map .exit)) (now (initial .exit)) (now (tags .exit)) (now (stems .exit)) ⌝ }
+            (now (map .exit)) (now (initial .exit)) (now (tags .exit)) (now (stems .exit)) ×
+            (length (now (notes .exit)) ≡ maxHints) ⌝ }
     {
-        let based = self.with_initial(initial, tags, state, zones, stems);
+        let based = self.with_initial(initial, tags, state, zones, stems, notes);
         let present = HintMask::new(mask);
         let len = make_map(
             map,
@@ -189,6 +196,7 @@ impl Sizes {
             initial,
             based.initial,
             state.scale,
+            notes,
         );
         let mut sizes = based;
         sizes.map = len;

@@ -5,6 +5,7 @@ use commands::Marking;
 use stems::HINT_MASK_SIZE;
 use stems::HintMask;
 use stems::LINES;
+use stems::MAX_HINTS;
 use stems::STEM_NUMBERS;
 use stems::TAGS;
 use zones::HintState;
@@ -12,6 +13,7 @@ use zones::ZONE_NUMBERS;
 ghost use mathlib.Core.Path.{_≡_};
 ghost use Prim.Native.Nat.{_+_, _≤_};
 ghost use lib.ListN.{length, take, drop};
+ghost use Rattle.stems.specs.Edge.{maxHints};
 ghost use Rattle.zones.specs.Numbers.{ListedZones};
 ghost use Rattle.run.specs.Run.{maskAt};
 ghost use Rattle.run.specs.Kept.{Markable, Marked};
@@ -45,11 +47,13 @@ pub(crate) fn marked(
     stems: &mut [i32; STEM_NUMBERS],
     initial: &mut [i32; LINES],
     tags: &mut [u8; TAGS],
+    notes: &mut [i32; MAX_HINTS],
 ) -> Sizes
     requires { ⌜ Markable (now script) from marking sizes (now mask) (now stems) (now initial) (now tags) ×
-        ListedZones state (now zones) ⌝ }
+        (ListedZones state (now zones) × (length (now notes) ≡ maxHints)) ⌝ }
     ensures { λ r. ⌜ Marked state (now (script .entry)) from marking sizes (now (mask .entry)) (now (stems .entry))
-        (now (initial .entry)) r (now (mask .exit)) (now (stems .exit)) (now (initial .exit)) (now (tags .exit)) ⌝ }
+        (now (initial .entry)) r (now (mask .exit)) (now (stems .exit)) (now (initial .exit)) (now (tags .exit)) ×
+        (length (now (notes .exit)) ≡ maxHints) ⌝ }
 {
     match marking {
         Marking::Bad => sizes,
@@ -57,7 +61,7 @@ pub(crate) fn marked(
         Marking::Mask { start, len } => sizes.with_mask(mask, mask_at(script, from, start, len)),
         Marking::Counter { start, len } => {
             let given = mask_at(script, from, start, len);
-            sizes.counter(initial, tags, state, zones, given, stems)
+            sizes.counter(initial, tags, state, zones, given, stems, notes)
         }
         Marking::Clear => {
             clear_lists(mask, stems);

@@ -10,6 +10,7 @@ use pen::Path;
 use pen::Pen;
 use stems::HINT_MASK_SIZE;
 use stems::LINES;
+use stems::MAX_HINTS;
 use stems::STEM_NUMBERS;
 use stems::TAGS;
 use words::Answer;
@@ -78,6 +79,7 @@ pub fn run(
     let mut initial = [0i32; LINES];
     let mut map = [0i32; LINES];
     let mut tags = [0u8; TAGS];
+    let mut notes = [0i32; MAX_HINTS];
     let mut sizes = Sizes::none();
     let mut pen = Pen::new();
     let mut next = 0;
@@ -102,6 +104,7 @@ pub fn run(
                     &mut stems,
                     &mut initial,
                     &mut tags,
+                    &mut notes,
                 );
                 at = read.next;
             }
@@ -115,6 +118,7 @@ pub fn run(
                         &zones,
                         &mask,
                         &mut stems,
+                        &mut notes,
                     );
                     continue;
                 }

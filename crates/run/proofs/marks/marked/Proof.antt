@@ -40,25 +40,29 @@ module _ (st : HintState) (h : Hints) (z : Sizes) (bs : List ℕ) (ns is ms : Li
 
 returns : tie.Need-returns
 returns c =
-    let s = c .before .before .before in
-    record {
-      whole = s .pre .0 .build .whole;
-      long = s .pre .0 .build .long;
-      twelve = s .pre .0 .twelve;
-      kept = λ h ms k. told s (c .enum-told .given .1) h _ _ _ _ ms k;
-    }
+    let s = c .before .before .before in (
+      record {
+        whole = s .pre .0 .build .whole;
+        long = s .pre .0 .build .long;
+        twelve = s .pre .0 .twelve;
+        kept = λ h ms k. told s (c .enum-told .given .1) h _ _ _ _ ms k;
+      },
+      s .pre .1 .1,
+    )
 
 returns-2 : tie.Need-returns-2
 returns-2 c =
     let m = c .before .before .before in
     let s = m .before .before .before in
-    let k = c .with-stem .ensures in
-    record {
-      whole = s .pre .0 .build .whole;
-      long = k .long;
-      twelve = s .pre .0 .twelve;
-      kept = λ h ms q. told s (m .marking .given .1) h _ _ _ _ ms (k .kept (s .args .state) h _ _ ms q);
-    }
+    let k = c .with-stem .ensures in (
+      record {
+        whole = s .pre .0 .build .whole;
+        long = k .long;
+        twelve = s .pre .0 .twelve;
+        kept = λ h ms q. told s (m .marking .given .1) h _ _ _ _ ms (k .kept (s .args .state) h _ _ ms q);
+      },
+      s .pre .1 .1,
+    )
 
 mask-at-requires : tie.Need-mask-at-requires
 mask-at-requires c κs =
@@ -70,14 +74,16 @@ returns-3 c =
     let a = c .before in
     let m = a .before .before .before in
     let s = m .before .before .before in
-    let k = c .with-mask .ensures in
-    record {
-      whole = s .pre .0 .build .whole;
-      long = s .pre .0 .build .long;
-      twelve = k .twelve;
-      kept = λ h ms q. told s (m .marking2 .given .1) h _ _ _ _ ms
-          (masked-as (s .args .state) h _ _ _ _ ms (a .mask-at .ensures) (k .kept (s .args .state) h _ _ ms q));
-    }
+    let k = c .with-mask .ensures in (
+      record {
+        whole = s .pre .0 .build .whole;
+        long = s .pre .0 .build .long;
+        twelve = k .twelve;
+        kept = λ h ms q. told s (m .marking2 .given .1) h _ _ _ _ ms
+            (masked-as (s .args .state) h _ _ _ _ ms (a .mask-at .ensures) (k .kept (s .args .state) h _ _ ms q));
+      },
+      s .pre .1 .1,
+    )
 
 mask-at-requires-2 : tie.Need-mask-at-requires-2
 mask-at-requires-2 c κs =
@@ -86,41 +92,47 @@ mask-at-requires-2 c κs =
 
 returns-4 : tie.Need-returns-4
 returns-4 c =
-    let a = c .before .before .before .before in
+    let a = c .before .before .before .before .before in
     let m = a .before .before in
     let s = m .before .before .before in
-    let k = c .counter .ensures in
-    record {
-      whole = k .build .whole;
-      long = k .build .long;
-      twelve = s .pre .0 .twelve;
-      kept = λ h ms q. told s (m .marking3 .given .1) h _ _ _ _ ms
-          (countered-as (s .args .state) h _ _ _ _ ms (a .mask-at2 .ensures) (k .kept h _ ms q));
-    }
+    let k = c .counter .ensures .0 in (
+      record {
+        whole = k .build .whole;
+        long = k .build .long;
+        twelve = s .pre .0 .twelve;
+        kept = λ h ms q. told s (m .marking3 .given .1) h _ _ _ _ ms
+            (countered-as (s .args .state) h _ _ _ _ ms (a .mask-at2 .ensures) (k .kept h _ ms q));
+      },
+      c .counter .ensures .1,
+    )
 
 returns-5 : tie.Need-returns-5
 returns-5 c =
     let l = c .before in
     let m = l .before .before .before in
     let s = m .before .before .before in
-    let k = l .clear-lists .ensures in
-    record {
-      whole = s .pre .0 .build .whole;
-      long = ap length (k .none) ∙ length-replicate 480 (pos 0);
-      twelve = ap length (k .all);
-      kept = λ h ms q. told s (m .enum-told2 .given .1) h _ _ _ _ ms
-          (rw (c .none .ensures) (cleared-kept (s .args .state) _ ms k));
-    }
+    let k = l .clear-lists .ensures in (
+      record {
+        whole = s .pre .0 .build .whole;
+        long = ap length (k .none) ∙ length-replicate 480 (pos 0);
+        twelve = ap length (k .all);
+        kept = λ h ms q. told s (m .enum-told2 .given .1) h _ _ _ _ ms
+            (rw (c .none .ensures) (cleared-kept (s .args .state) _ ms k));
+      },
+      s .pre .1 .1,
+    )
 
 returns-6 : tie.Need-returns-6
 returns-6 c =
-    let s = c .before .before .before in
-    record {
-      whole = s .pre .0 .build .whole;
-      long = s .pre .0 .build .long;
-      twelve = s .pre .0 .twelve;
-      kept = λ h ms k. told s (c .enum-told3 .given .1) h _ _ _ _ ms k;
-    }
+    let s = c .before .before .before in (
+      record {
+        whole = s .pre .0 .build .whole;
+        long = s .pre .0 .build .long;
+        twelve = s .pre .0 .twelve;
+        kept = λ h ms k. told s (c .enum-told3 .given .1) h _ _ _ _ ms k;
+      },
+      s .pre .1 .1,
+    )
 
 pub marked-spec : {M : Type 1} → statement M
 marked-spec =

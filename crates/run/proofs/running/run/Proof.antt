@@ -28,14 +28,14 @@ use Rattle.run.proofs.running.run.Statement.{statement}
 use Rattle.run.proofs.running.run.Tie as tie
 
 abbrev Inv-loop : tie.InvT-loop
-Inv-loop script part first n from state out₀ zones mask₀ stems₀ initial₀ map₀ tags₀ sizes₀ pen₀ next₀ at₀ out mask stems
-    initial map tags sizes pen next at =
+Inv-loop script part first n from state out₀ zones mask₀ stems₀ initial₀ map₀ tags₀ notes₀ sizes₀ pen₀ next₀ at₀ out mask
+    stems initial map tags notes sizes pen next at =
     Running state script part first n from out₀ mask stems initial map tags sizes pen next at out ×
-    ListedZones state zones
+    (ListedZones state zones × (length notes ≡ 96))
 
 abbrev μ-loop : tie.MeasureT-loop
-μ-loop script part first n from state out₀ zones mask₀ stems₀ initial₀ map₀ tags₀ sizes₀ pen₀ next₀ at₀ out mask stems
-    initial map tags sizes pen next at =
+μ-loop script part first n from state out₀ zones mask₀ stems₀ initial₀ map₀ tags₀ notes₀ sizes₀ pen₀ next₀ at₀ out mask
+    stems initial map tags notes sizes pen next at =
     2 * (n - at) + unready (sizes .valid)
 
 -- the arguments, from a turn's start
@@ -116,7 +116,7 @@ loop-holds c =
       rw (c .before .none .ensures, c .new .ensures)
           (starts (a .state) (a .script .now) (a .part .now) (a .first) (a .n) (a .from) (a .out .now) _ _ _ (s .pre)
           (record { all = refl; named = refl }) refl),
-      c .before .before .list .ensures,
+      (c .before .before .list .ensures, refl),
     )
 
 read-command-requires : tie.Need-read-command-requires Inv-loop μ-loop
@@ -142,7 +142,7 @@ loop-again c =
 
 marked-requires : tie.Need-marked-requires Inv-loop μ-loop
 marked-requires c κs =
-    let m = c .before .before .before .before .before .before .before .before in
+    let m = c .before .before .before .before .before .before .before .before .before in
     let i = mark-turn m .loop .inv in (
       record {
         named = mask-there (i .0 .goes .sound) (m .before .before .before .loop-test .taken) (mark-is m);
@@ -154,46 +154,46 @@ marked-requires c κs =
 
 loop-less-2 : tie.Need-loop-less-2 Inv-loop μ-loop
 loop-less-2 c =
-    let m = c .before .before .before .before .before .before .before .before .before in
+    let m = c .before .before .before .before .before .before .before .before .before .before in
     let r = m .before .before in
     omega (arith, moved r, r .before .loop-test .taken, unready-one (c .marked .result .valid))
 
 loop-again-2 : tie.Need-loop-again-2 Inv-loop μ-loop
 loop-again-2 c =
-    let m = c .before .before .before .before .before .before .before .before .before in
+    let m = c .before .before .before .before .before .before .before .before .before .before in
     let r = m .before .before in
     let i = mark-turn m .loop .inv in (
       rw (moved r)
           (marks _ _ _ _ _ _ _ _ _ _ _ _ _ _ _ _ _ (i .0) (r .before .loop-test .taken) _ _ _ _ _ (mark-is m)
-          (c .marked .ensures)),
-      i .1,
+          (c .marked .ensures .0)),
+      (i .1 .0, c .marked .ensures .1),
     )
 
 ready-requires : tie.Need-ready-requires Inv-loop μ-loop
 ready-requires c κs =
-    let i = draw-turn (c .before .before .before .before .before .before .before) .loop .inv in
+    let i = draw-turn (c .before .before .before .before .before .before .before .before) .loop .inv in
     (mappable _ _ _ _ _ _ _ _ _ _ _ _ _ _ _ _ _ (i .0), i .1)
 
 -- where a map is made, it was wanted
 module _ (c : tie.After-ready Inv-loop μ-loop) where
   abbrev for : tie.After-wants-map Inv-loop μ-loop
-  for = c .before .before .before .before .before .before .before .before
+  for = c .before .before .before .before .before .before .before .before .before
 
   want : (draw-turn for .loop .sizes .valid ≡ false) × (hasPoint (path for) ≡ true)
   want =
       wanted (draw-turn for .loop .sizes .valid) (path for)
-      (sym (for .wants-map .ensures) ∙ c .before .before .before .before .before .before .before .if2 .taken)
+      (sym (for .wants-map .ensures) ∙ c .before .before .before .before .before .before .before .before .if2 .taken)
 
 loop-less-3 : tie.Need-loop-less-3 Inv-loop μ-loop
-loop-less-3 c = omega (arith, ap unready (c .ready .ensures .valid), ap unready (want c .0))
+loop-less-3 c = omega (arith, ap unready (c .ready .ensures .0 .valid), ap unready (want c .0))
 
 loop-again-3 : tie.Need-loop-again-3 Inv-loop μ-loop
 loop-again-3 c =
     let w = for c in
     let i = draw-turn w .loop .inv in (
       readies _ _ _ _ _ _ _ _ _ _ _ _ _ _ _ _ _ (i .0) (draw-read w .before .loop-test .taken) _ _ _ _ _ (draw-is w)
-          (want c .1) (want c .0) (c .ready .ensures),
-      i .1,
+          (want c .1) (want c .0) (c .ready .ensures .0),
+      (i .1 .0, c .ready .ensures .1),
     )
 
 -- what is left of the output is where it was
@@ -211,8 +211,8 @@ draw-by-lines-requires c κs =
     let k = draw-turn (c .before .before .before .before) .loop .inv .0 .kept .map in
     (k .fits, λ e. k .order)
 
-add-t48 : tie.Need-add-t48 Inv-loop μ-loop
-add-t48 c =
+add-t51 : tie.Need-add-t51 Inv-loop μ-loop
+add-t51 c =
     let d = c .before .before .before in
     let l = call-turn d in
     omega (arith, begin l .pre .start, begin l .pre .short, draw-read (asked d) .before .loop-test .taken)
@@ -279,5 +279,5 @@ run-spec =
     (λ c. search needs) (λ c κs. search needs) loop-less loop-again marked-requires loop-less-2 loop-again-2
     (λ c. search needs) (λ c κs. search needs) ready-requires loop-less-3 loop-again-3 mul-draw-by-lines
     within within (λ c. search needs) draw-by-lines-requires (λ c. search needs)
-    (λ c. search needs) add-t48 (λ c. same-out (c .before .before .before)) returns add-next loop-less-4 loop-again-4
+    (λ c. search needs) add-t51 (λ c. same-out (c .before .before .before)) returns add-next loop-less-4 loop-again-4
     (λ c. c .before .loop .inv .0 .goes .stands .along .same) returns-2)

@@ -7,23 +7,27 @@ use Rattle.run.proofs.kept.Sizes.with_initial.Tie as tie
 
 returns : tie.Need-returns
 returns c =
-    let s = c .before in
-    record {
-      whole = s .pre .0;
-      fits = s .pre .1 .0;
-      kept = λ h bs ms k. stays-based (s .args .state) h (s .args .self) bs _ _ ms k (c .if1 .taken);
-    }
+    let s = c .before in (
+      record {
+        whole = s .pre .0;
+        fits = s .pre .1 .0;
+        kept = λ h bs ms k. stays-based (s .args .state) h (s .args .self) bs _ _ ms k (c .if1 .taken);
+      },
+      s .pre .1 .1 .1,
+    )
 
 returns-2 : tie.Need-returns-2
 returns-2 c =
-    let e = c .before .before .before in
+    let e = c .before .before .before .before in
     let a = e .before .args in
-    let m = c .make-initial .ensures in
-    record {
-      whole = m .lent .whole;
-      fits = m .lent .fits;
-      kept = λ h bs ms k. gets-based (a .state) h (a .self) bs _ _ ms k _ _ _ (e .if1 .left) m;
-    }
+    let m = c .make-initial .ensures .0 in (
+      record {
+        whole = m .lent .whole;
+        fits = m .lent .fits;
+        kept = λ h bs ms k. gets-based (a .state) h (a .self) bs _ _ ms k _ _ _ (e .if1 .left) m;
+      },
+      c .make-initial .ensures .1,
+    )
 
 pub with-initial-spec : {M : Type 1} → statement M
 with-initial-spec = tie.close (tie.spec returns (λ c κs. search needs) returns-2)
