@@ -61,7 +61,8 @@ pub(crate) fn place_locked(
 ) -> usize
     requires { ⌜ Lent (now lines) (now tags) start × (count ≤ maxHints) ⌝ }
     ensures { λ r. ⌜ Locked (stateIn gauge (now (zones .entry))) (stemsIn (now (stems .entry)) count)
-        (now (lines .entry)) (now (tags .entry)) start (now (rest .entry)) r (now (lines .exit)) (now (tags .exit)) (now (rest .exit)) ⌝ }
+        (now (lines .entry)) (now (tags .entry)) start (now (rest .entry)) r
+        (now (lines .exit)) (now (tags .exit)) (now (rest .exit)) ⌝ }
 {
     let mut len = start;
     for i in 0..count {

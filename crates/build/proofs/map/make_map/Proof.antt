@@ -42,8 +42,8 @@ returns c =
     let x = l .before .before in
     let start = x .before .before .before in
     let a = start .args in (
-      map-is (a .state) (a .stems .now) (a .count) (l .least .result) (l .least .ensures) (a .mask) _ _ _ _ _ _ _ _ _ _ _
-          _ _ _ _ _ (x .put-em-box .ensures)
+      map-is (a .state) (a .stems .now) (a .count) (l .least .result) (l .least .ensures) (a .mask) _ _ _ _ _ _ _ _ _ _
+          _ _ _ _ _ _ (x .put-em-box .ensures)
           (locked-of (state-is (a .state) _ _ (g .gauge .ensures) (start .pre .1 .0)) (p .place-locked .ensures))
           (f .place-free .ensures) (d .adjust .ensures) (c .save-all .ensures),
       d .adjust .ensures .long,

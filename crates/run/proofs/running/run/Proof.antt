@@ -28,14 +28,14 @@ use Rattle.run.proofs.running.run.Statement.{statement}
 use Rattle.run.proofs.running.run.Tie as tie
 
 abbrev Inv-loop : tie.InvT-loop
-Inv-loop script part first n from state out₀ zones mask₀ stems₀ initial₀ map₀ tags₀ notes₀ sizes₀ pen₀ next₀ at₀ out mask
-    stems initial map tags notes sizes pen next at =
+Inv-loop script part first n from state out₀ zones mask₀ stems₀ initial₀ map₀ tags₀ notes₀ sizes₀ pen₀ next₀ at₀ out
+    mask stems initial map tags notes sizes pen next at =
     Running state script part first n from out₀ mask stems initial map tags sizes pen next at out ×
     (ListedZones state zones × (length notes ≡ 96))
 
 abbrev μ-loop : tie.MeasureT-loop
-μ-loop script part first n from state out₀ zones mask₀ stems₀ initial₀ map₀ tags₀ notes₀ sizes₀ pen₀ next₀ at₀ out mask
-    stems initial map tags notes sizes pen next at =
+μ-loop script part first n from state out₀ zones mask₀ stems₀ initial₀ map₀ tags₀ notes₀ sizes₀ pen₀ next₀ at₀ out
+    mask stems initial map tags notes sizes pen next at =
     2 * (n - at) + unready (sizes .valid)
 
 -- the arguments, from a turn's start

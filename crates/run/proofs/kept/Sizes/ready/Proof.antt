@@ -25,7 +25,8 @@ returns c =
           twelve = s .pre .0 .twelve;
         };
         valid = refl;
-        kept = λ h ms v k. ready-kept (a .state) h _ _ _ _ ms _ _ _ _ (k .map .valid ∙ v) (b .kept h _ ms k) (rw e at m);
+        kept = λ h ms v k. ready-kept (a .state) h _ _ _ _ ms _ _ _ _ (k .map .valid ∙ v) (b .kept h _ ms k)
+            (rw e at m);
       },
       c .make-map .ensures .1,
     )
