@@ -6,7 +6,7 @@ use mathlib.Core.List.{List, [], _∷_}
 use Prim.Native.Nat.{ℕ, zero, suc, _≤_, _<_}
 use native.Mathlib.Omega.{arith}
 use lib.ListN.{length, getD}
-use lib.Signed.{_≤ℤ_, _<ℤ_}
+use lib.Signed.{_<ℤ_}
 use Rattle.fixed.specs.declared.Fixed.{Fixed}
 use Rattle.fixed.specs.Fixed.{mulF, lessF, atMostF}
 use Rattle.fixed.proofs.Order.{heights}
