@@ -57,14 +57,15 @@ module _ (c : tie.After-loop Inv-loop μ-loop) where
       Entered (o .before .args .lines .now) (o .before .args .tags .now) (o .before .args .len) at
       (edgesOf (o .before .args .e)) (o .before .args .len + o .count .result) ls ts
   filled p w q =
+      let len = o .before .args .len in
+      let n = o .count .result in
       let k : c .before .loop .k ≡ at = omega arith in
       record {
         whole = w;
-        longer = ap (λ (k : ℕ). o .before .args .len + k) (o .count .ensures);
+        longer = ap (λ (k : ℕ). len + k) (o .count .ensures);
         edges =
-            rw (q, sym p, c .before .loop .inv .1 .1 .1 ∙ ap (shifted (es o) (o .before .args .len) (o .count .result)) k)
-            (entered (es o) (o .before .args .len) at (o .count .result) (edgesOf (o .before .args .e)) (search needs)
-            (room o) (o .count .ensures));
+            rw (q, sym p, c .before .loop .inv .1 .1 .1 ∙ ap (shifted (es o) len n) k)
+            (entered (es o) len at n (edgesOf (o .before .args .e)) (search needs) (room o) (o .count .ensures));
       }
 
 loop-holds : tie.Need-loop-holds Inv-loop μ-loop
