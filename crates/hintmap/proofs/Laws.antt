@@ -59,10 +59,10 @@ module _ {A : Type 0} where
   shifted-step-at es n g zero d hp hk hn = absurd (omega arith)
 
   -- the elements in the gap give way to what is put in
-  pub entered : (es : List A) (n k g : ℕ) (new : List A) → k ≤ n → n + g ≤ length es → g ≡ length new →
+  pub gap-filled : (es : List A) (n k g : ℕ) (new : List A) → k ≤ n → n + g ≤ length es → g ≡ length new →
       take (n + g) (sets (shifted es n g k) k new) ≡ take k (take n es) ++ (new ++ drop k (take n es))
   unfolding shifted
-  entered es n k g new hk hn q =
+  gap-filled es n k g new hk hn q =
       let gone = drop k (take n es) in
       let l : length (take (k + g) es) ≡ k + g = length-take-le (k + g) es (omega arith) in
       let h : k + length new ≤ length (take (k + g) es ++ (gone ++ drop (n + g) es)) = simp length-append

@@ -16,7 +16,7 @@ use Rattle.stems.proofs.Places.{edges-long, put-is, put-whole, copied-is, copie
 use Rattle.hintmap.specs.declared.insert.Edges.{Edges}
 use Rattle.hintmap.specs.Insert.{edgesOf}
 use Rattle.hintmap.specs.Lent.{Entered}
-use Rattle.hintmap.proofs.Laws.{shifted, shifted-none, shifted-step-at, entered}
+use Rattle.hintmap.proofs.Laws.{shifted, shifted-none, shifted-step-at, gap-filled}
 use Rattle.hintmap.proofs.Enter.{enters-room}
 use Rattle.hintmap.proofs.insert.put.Statement.{statement}
 use Rattle.hintmap.proofs.insert.put.Tie as tie
@@ -65,7 +65,7 @@ module _ (c : tie.After-loop Inv-loop μ-loop) where
         longer = ap (λ (k : ℕ). len + k) (o .count .ensures);
         edges =
             rw (q, sym p, c .before .loop .inv .1 .1 .1 ∙ ap (shifted (es o) len n) k)
-            (entered (es o) len at n (edgesOf (o .before .args .e)) (search needs) (room o) (o .count .ensures));
+            (gap-filled (es o) len at n (edgesOf (o .before .args .e)) (search needs) (room o) (o .count .ensures));
       }
 
 loop-holds : tie.Need-loop-holds Inv-loop μ-loop
