@@ -2,13 +2,12 @@
 use mathlib.Core.Path.{_≡_, refl, sym, ap, _∙_}
 use mathlib.Core.List.{List, [], _∷_, _++_}
 use Prim.Native.Nat.{ℕ, zero, suc}
-use lib.ListN.{take, getD, set}
-use lib.Signed.{_≤ℤ_}
+use lib.ListN.{take}
 use Rattle.fixed.specs.declared.Fixed.{Fixed}
 use Rattle.fixed.proofs.Order.{heights}
 use Rattle.stems.specs.declared.edge.Hint.{Hint}
-use Rattle.stems.specs.Edge.{noHint, validK, pairK, atDevice}
-use Rattle.hintmap.specs.WholeStems.{Past, WholeStems, none, one, two, Like, Alike, nil, cons}
+use Rattle.stems.specs.Edge.{validK, pairK, atDevice}
+use Rattle.hintmap.specs.WholeStems.{Pair, Past, WholeStems, none, one, two, Like, Alike, nil, cons}
 
 -- an edge moved on the device differs there only
 pub like-device : (x : Hint) (d : Fixed) → Like x (atDevice x d)
@@ -28,39 +27,20 @@ pub alike-append : {xs ys zs ws : List Hint} → Alike xs ys → Alike zs ws →
 alike-append nil b = b
 alike-append (cons p a) b = cons p (alike-append a b)
 
--- one after the other
-pub alike-trans : {xs ys zs : List Hint} → Alike xs ys → Alike ys zs → Alike xs zs
-alike-trans nil nil = nil
-alike-trans (cons p a) (cons q b) =
-    cons (record {
-      kind = p .kind ∙ q .kind;
-      synthetic = p .synthetic ∙ q .synthetic;
-      index = p .index ∙ q .index;
-      level = p .level ∙ q .level;
-    }) (alike-trans a b)
-
--- an edge stored that differs on the device only
-pub alike-set : (es : List Hint) (k : ℕ) (e : Hint) → Like (getD es k noHint) e → Alike es (set es k e)
-alike-set [] k e l = nil
-alike-set (x ∷ xs) zero e l = cons l (alike-refl xs)
-alike-set (x ∷ xs) (suc k) e l = cons (like-refl x) (alike-set xs k e l)
-
 -- alike lists cut are alike
 pub alike-take : {xs ys : List Hint} (n : ℕ) → Alike xs ys → Alike (take n xs) (take n ys)
 alike-take zero a = nil
 alike-take (suc n) nil = nil
 alike-take (suc n) (cons p a) = cons p (alike-take n a)
 
--- what is above a height, or in order, stays so
+-- a pair stays one, and what is above a height stays so
+pair-like : {b t c d : Hint} → Like b c → Like t d → Pair b t → Pair c d
+pair-like p q s = record { bottom = (cc); top = (cc); own = (cc); bottomReal = (cc); topReal = (cc) }
+
 past-like : {xs ys : List Hint} (z w : Fixed) → z ≡ w → Alike xs ys → Past z xs → Past w ys
 unfolding Past
 past-like z w e nil f = tt
-past-like z w e (cons p a) f =
-    let l = p .level in
-    omega heights
-
-order-like : {a b c d : Fixed} → a ≡ c → b ≡ d → a .bits ≤ℤ b .bits → c .bits ≤ℤ d .bits
-order-like p q l = omega heights
+past-like z w e (cons p a) f = omega heights
 
 -- whole stems stay whole
 pub stems-alike : {xs ys : List Hint} → Alike xs ys → WholeStems xs → WholeStems ys
@@ -69,11 +49,4 @@ stems-alike (cons p a) (one s f r) =
     one (record { present = sym (ap validK (p .kind)) ∙ s .present; single = sym (ap pairK (p .kind)) ∙ s .single })
     (past-like _ _ (p .level) a f) (stems-alike a r)
 stems-alike (cons p (cons q a)) (two s o f r) =
-    two (record {
-      bottom = sym (p .kind) ∙ s .bottom;
-      top = sym (q .kind) ∙ s .top;
-      own = sym (p .index) ∙ s .own ∙
-          q .index;
-      bottomReal = sym (p .synthetic) ∙ s .bottomReal;
-      topReal = sym (q .synthetic) ∙ s .topReal;
-    }) (order-like (p .level) (q .level) o) (past-like _ _ (q .level) a f) (stems-alike a r)
+    two (pair-like p q s) (omega heights) (past-like _ _ (q .level) a f) (stems-alike a r)

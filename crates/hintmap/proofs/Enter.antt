@@ -2,7 +2,7 @@
 use mathlib.Core.Path.{_≡_, refl}
 use mathlib.Core.Bool.{Bool, true, false, not, _&&_}
 use mathlib.Core.List.{List}
-use Prim.Native.Nat.{ℕ, _+_, _≤_, _<_}
+use Prim.Native.Nat.{ℕ, _+_, _≤_}
 use native.Mathlib.Omega.{arith}
 use lib.Dec.{ltb}
 use lib.ListN.{length}
@@ -17,20 +17,12 @@ use Rattle.hintmap.specs.Map.{view}
 use Rattle.hintmap.specs.Insert.{firstEdge, edgesOf, mayEnter, again, placedBy, placedFor}
 use Rattle.hintmap.proofs.Tests.{both}
 
--- a pair leaves room for its top
-pub enters-two : (n : ℕ) (b t : Hint) → mayEnter n (Two b t) ≡ true → n < 95
-unfolding mayEnter
-enters-two n b t h = ltb-true n 95 (both (not (lessF (t .«cs_coord») (b .«cs_coord»))) (ltb n 95) h .1)
-
-pub enters-any : (n : ℕ) (e : Edges) → mayEnter n e ≡ true → n < 96
-unfolding mayEnter
-enters-any n (One e) h = ltb-true n 96 h
-enters-any n (Two b t) h = omega (arith, enters-two n b t h)
-
--- so there is room for all of it
+-- there is room for all of it
 pub enters-room : (n : ℕ) (e : Edges) → mayEnter n e ≡ true → n + length (edgesOf e) ≤ 96
-enters-room n (One e) h = omega (arith, enters-any n (One e) h)
-enters-room n (Two b t) h = omega (arith, enters-two n b t h)
+unfolding mayEnter
+enters-room n (One e) h = omega (arith, ltb-true n 96 h)
+enters-room n (Two b t) h =
+    omega (arith, ltb-true n 95 (both (not (lessF (t .«cs_coord») (b .«cs_coord»))) (ltb n 95) h .1))
 
 -- placed again or not, it may enter as before
 again-enters : (n : ℕ) (b : Bool) (es : List Hint) (s₀ s : Fixed) (e : Edges) →

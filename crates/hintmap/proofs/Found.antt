@@ -15,7 +15,7 @@ use Rattle.stems.specs.declared.edge.Hint.{Hint}
 use Rattle.stems.specs.Edge.{noHint}
 use Rattle.stems.specs.Lists.{heightIn, deviceIn, scaleIn, edgesIn, held}
 use Rattle.stems.proofs.Places.{edges-long, height-of, device-of, scale-of}
-use Rattle.hintmap.specs.Map.{placeAmong, reach, line, lineBy, mapOf}
+use Rattle.hintmap.specs.Map.{line, lineBy, mapOf}
 use Rattle.hintmap.specs.Lent.{Rises, Rising, Reaches, Places}
 use Rattle.hintmap.proofs.Near.{leading-is}
 use Rattle.hintmap.proofs.Walk.{map-some}

@@ -1,12 +1,13 @@
 -- A list whose elements from a place on have gone up by some places, as `HintMap::put` makes it.
 -- Assumes nothing.
-use mathlib.Core.Path.{_≡_, refl, sym, ap, subst, _∙_}
-use mathlib.Core.List.{List, [], _∷_, _++_, append-assoc}
+use mathlib.Core.Path.{_≡_, sym, ap, _∙_}
+use mathlib.Core.List.{List, [], _++_, append-assoc}
 use Prim.Native.Nat.{ℕ, zero, suc, _+_, _≤_, _<_, _-_}
-use native.Mathlib.Numerals.{add-one}
 use native.Mathlib.Omega.{arith}
-use lib.ListN.{length, take, drop, getD, set, length-take, take-append-drop, List·getD-append}
-use lib.Seq.{drop-cons, take-suc, getD-take, set-at, take-take, length-take-le, drop-length}
+use lib.ListN.{length, take, drop, getD, set, length-take, length-drop, length-append, take-append-drop}
+use lib.ListN.{List·getD-append}
+use lib.Seq.{drop-cons, take-suc, getD-take, set-at, take-take, length-take-le, drop-length, take-at, drop-at}
+use lib.Seq.{sets, sets-eq, take-append-le}
 
 module _ {A : Type 0} where
   -- the list es of which the elements from k up to n have gone up by g, with those from k on still
@@ -57,35 +58,25 @@ module _ {A : Type 0} where
       rw e (shifted-step es n g k d (omega arith) hn)
   shifted-step-at es n g zero d hp hk hn = absurd (omega arith)
 
-  -- the two elements after xs give way
-  set-two : (xs r : List A) (y z b t : A) →
-      set (set (xs ++ (y ∷ z ∷ r)) (length xs) b) (suc (length xs)) t ≡ xs ++ (b ∷ t ∷ r)
-  set-two [] r y z b t = refl
-  set-two (x ∷ xs) r y z b t = ap (λ (s : List A). x ∷ s) (set-two xs r y z b t)
-
   -- the elements in the gap give way to what is put in
-  module _ (es : List A) (n k : ℕ) (d : A) (hk : k ≤ n) where
-    pub shifted-one : (v : A) → n + 1 ≤ length es →
-        set (shifted es n 1 k) k v ≡ (take k (take n es) ++ (v ∷ drop k (take n es))) ++ drop (n + 1) es
-    unfolding shifted
-    shifted-one v hn =
-        let l : length (take k es) ≡ k = length-take-le k es (omega arith) in
-        let h : k < length es = omega arith in
-        rw (add-one k, take-suc es k d h, take-take k n es hk, append-assoc, append-assoc)
-        (set-at (take k es) _ _ v k l)
-
-    pub shifted-two : (b t : A) → n + 2 ≤ length es →
-        set (set (shifted es n 2 k) k b) (k + 1) t ≡
-        (take k (take n es) ++ (b ∷ t ∷ drop k (take n es))) ++ drop (n + 2) es
-    unfolding shifted
-    shifted-two b t hn =
-        let l : length (take k es) ≡ k = length-take-le k es (omega arith) in
-        let h : k < length es = omega arith in
-        let h′ : suc k < length es = omega arith in
-        let e : k + 2 ≡ suc (suc k) = omega arith in
-        let rest = drop k (take n es) ++ drop (n + 2) es in
-        rw (e, take-suc es (suc k) d h′, take-suc es k d h, take-take k n es hk, add-one k)
-        (simp append-assoc
-        (subst (λ (j : ℕ). set (set (take k es ++ (getD es k d ∷ getD es (suc k) d ∷ rest)) j b) (suc j) t ≡
-        take k es ++ (b ∷ t ∷ rest)) l
-        (set-two (take k es) rest (getD es k d) (getD es (suc k) d) b t)))
+  pub gap-filled : (es : List A) (n k g : ℕ) (new : List A) → k ≤ n → n + g ≤ length es → g ≡ length new →
+      take (n + g) (sets (shifted es n g k) k new) ≡ take k (take n es) ++ (new ++ drop k (take n es))
+  unfolding shifted
+  gap-filled es n k g new hk hn q =
+      let gone = drop k (take n es) in
+      let l : length (take (k + g) es) ≡ k + g = length-take-le (k + g) es (omega arith) in
+      let h : k + length new ≤ length (take (k + g) es ++ (gone ++ drop (n + g) es)) = simp length-append
+      (omega arith) in
+      let h′ : k ≤ length (take (k + g) es) = omega arith in
+      let m : k ≤ k + g = omega arith in
+      rw (
+        sets-eq new (take (k + g) es ++ (gone ++ drop (n + g) es)) k h,
+        ← q,
+        drop-at (take (k + g) es) (gone ++ drop (n + g) es) (k + g) l,
+        take-append-le k (take (k + g) es) (gone ++ drop (n + g) es) h′,
+        take-take k (k + g) es m,
+        take-take k n es hk,
+        ← append-assoc (take k es) new gone,
+        ← append-assoc (take k es ++ new) gone (drop (n + g) es),
+      )
+      (take-at _ _ (n + g) (simp (length-append, length-take, length-drop) (omega arith)))

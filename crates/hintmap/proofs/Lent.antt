@@ -1,7 +1,6 @@
 -- The map that lists hold: what counts of it, its order, and what a write makes of it. Assumes
 -- nothing.
 use mathlib.Core.Path.{_≡_, refl, sym, ap, _∙_}
-use mathlib.Core.Bool.{Bool, true, false}
 use mathlib.Core.List.{List, [], _∷_, _++_, append-assoc}
 use Prim.Native.Nat.{ℕ, suc, _+_, _-_, _≤_, _<_, min}
 use native.Mathlib.Numerals.{add-one}
@@ -11,7 +10,6 @@ use lib.ListN.{length, getD, set, take, drop, replicate, length-append, List·ge
 use lib.ListN.{length-take, replicate-append-replicate}
 use lib.Seq.{take-at, drop-at, drop-append-add, length-take-le, getD-take, take-set-lt, set-append-left}
 use lib.Seq.{set-at, take-suc}
-use lib.Signed.{_≤ℤ_}
 use Rattle.fixed.specs.declared.Fixed.{Fixed}
 use Rattle.fixed.proofs.Counts.{take-least}
 use Rattle.stems.specs.declared.edge.Hint.{Hint}

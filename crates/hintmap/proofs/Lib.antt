@@ -12,7 +12,6 @@ pub mod Found
 pub mod Order
 pub mod Insertion
 pub mod Decided
-pub mod Entering
 pub mod WholeStems
 pub mod Words
 pub mod Mapping

@@ -1,20 +1,21 @@
 -- On a list in never-falling height the mapping goes by the last edge at or below, by the first
 -- with the map's scale where all are above, and by the scale where there is none. Assumes nothing.
-use mathlib.Core.Path.{_≡_, refl, ap}
+use mathlib.Core.Path.{_≡_, refl}
 use mathlib.Core.Bool.{Bool, true, false}
 use mathlib.Core.List.{List, [], _∷_}
 use Prim.Native.Nat.{ℕ, zero, suc, _≤_, _<_}
 use native.Mathlib.Omega.{arith}
 use lib.ListN.{length, getD}
-use lib.Signed.{_≤ℤ_, _<ℤ_}
+use lib.Signed.{_<ℤ_}
 use Rattle.fixed.specs.declared.Fixed.{Fixed}
 use Rattle.fixed.specs.Fixed.{mulF, lessF, atMostF}
 use Rattle.fixed.proofs.Order.{heights}
 use Rattle.stems.specs.declared.edge.Hint.{Hint}
 use Rattle.hintmap.specs.declared.map.HintMap.{HintMap}
 use Rattle.stems.specs.Edge.{noHint}
-use Rattle.hintmap.specs.Map.{view, leading, reach, line, mapOf}
+use Rattle.hintmap.specs.Map.{view, reach, line, mapOf}
 use Rattle.hintmap.specs.WholeStems.{height, WholeStems, Ascends, Last, Above}
+use Rattle.hintmap.proofs.Near.{leading-is}
 use Rattle.hintmap.proofs.Walk.{serves-at}
 use Rattle.hintmap.proofs.Words.{stems-ascend}
 
@@ -25,30 +26,16 @@ tail-ascends e es s i j l k = s (suc i) (suc j) (omega arith) (omega arith)
 -- nothing is passed where the next edge is above
 reach-none : (es : List Hint) (h : Fixed) → (0 < length es → h .bits <ℤ height (getD es 0 noHint) .bits) →
     reach es h ≡ 0
-unfolding leading
-reach-none [] h a = refl
-reach-none (x ∷ xs) h a =
-    let l : h .bits <ℤ height x .bits = a (omega arith) in
-    let t : atMostF (height x) h ≡ false = omega heights in
-    rw t
+reach-none es h a =
+    leading-is _ es 0 (omega arith) (λ i p. absurd (omega arith)) (λ p. let q = a p in omega heights)
 
 -- the walk passes all edges up to the last at or below
 reach-last : (e : Hint) (es : List Hint) (h : Fixed) (k : ℕ) → Ascends (e ∷ es) → Last (e ∷ es) h k → reach es h ≡ k
-unfolding leading
-reach-last e es h zero s l = reach-none es h (λ p. l .last 1 (omega arith) (omega arith))
-reach-last e [] h (suc k) s l = absurd (omega (arith, l .there))
-reach-last e (x ∷ xs) h (suc k) s l =
-    let a : height x .bits ≤ℤ height (getD (x ∷ xs) k noHint) .bits = s 1 (suc k) (omega arith) (l .there) in
+reach-last e es h k s l =
     let b = l .below in
-    let t : atMostF (height x) h ≡ true = omega heights in
-    rw t
-    (ap suc
-    (reach-last x xs h k (tail-ascends e (x ∷ xs) s)
-    (record {
-      there = omega (arith, l .there);
-      below = l .below;
-      last = λ j p q. l .last (suc j) (omega arith) (omega arith);
-    })))
+    leading-is _ es k (omega (arith, l .there))
+    (λ i p. let a = s (suc i) k (omega arith) (l .there) in omega heights)
+    (λ p. let a = l .last (suc k) (omega arith) (omega arith) in omega heights)
 
 map-last : (es : List Hint) (s h : Fixed) (k : ℕ) → Ascends es → Last es h k →
     mapOf es s h ≡ line (getD es k noHint) (getD es k noHint .scale) h

@@ -1,19 +1,16 @@
 -- What stands beside a place of a list of edges, and how many edges lead it. Assumes nothing.
-use mathlib.Core.Path.{_≡_, refl, sym, ap, _∙_}
+use mathlib.Core.Path.{_≡_, refl, ap}
 use mathlib.Core.Bool.{Bool, true, false, not}
 use mathlib.Core.List.{List, [], _∷_}
-use Prim.Native.Nat.{ℕ, zero, suc, _+_, _-_, _≤_, _<_, zero-le, suc-le-suc}
-use native.Mathlib.Numerals.{add-one}
+use Prim.Native.Nat.{ℕ, zero, suc, _-_, _≤_, _<_, zero-le, suc-le-suc}
 use native.Mathlib.Omega.{arith}
-use lib.ListN.{length, take, drop, getD, length-take, length-map, drop-of-length-le}
-use lib.Seq.{drop-cons, getD-take}
-use borrow.Author.Tests.{not-true, not-false}
+use lib.ListN.{length, getD, length-take, length-map}
 use Rattle.fixed.specs.declared.Fixed.{Fixed}
 use Rattle.fixed.specs.Fixed.{lessF}
 use Rattle.stems.specs.declared.edge.Hint.{Hint}
 use Rattle.hintmap.specs.declared.map.HintMap.{HintMap}
 use Rattle.stems.specs.Edge.{noHint}
-use Rattle.hintmap.specs.Map.{view, leading, placeAmong, countBy, clearAhead, clearBehind}
+use Rattle.hintmap.specs.Map.{view, leading, placeAmong, countBy, clearBehind}
 use Rattle.hintmap.proofs.map.HintMap.{the-type}
 
 -- the array of a map is whole, as a function knows it of an argument
@@ -23,25 +20,16 @@ Held m = length ((the-type .to m) .0) ≡ 96
 pub held-long : (m : HintMap) → Held m → length (m .edges) ≡ 96
 held-long m g = simp length-map at g
 
--- the edge at a place, or none, tested by code that has the answer r
+-- the test of the edge before a place, or of none
 module _ (f : Hint → Bool) (es : List Hint) where
-  pub ahead-at : (at : ℕ) {r : Bool} → at < length es → r ≡ f (getD es at noHint) → not r ≡ clearAhead f (drop at es)
-  unfolding clearAhead
-  ahead-at at l e = rw (drop-cons es at noHint l, e)
-
-  pub ahead-none : (at : ℕ) → length es ≤ at → true ≡ clearAhead f (drop at es)
-  unfolding clearAhead
-  ahead-none at l = rw (drop-of-length-le es {i = at} l)
-
-  -- the edge before a place
-  pub behind-at : (at : ℕ) {r : Bool} → 0 < at → r ≡ f (getD es (at - 1) noHint) → not r ≡ clearBehind f es at
+  pub behind-at : (at : ℕ) → 0 < at → clearBehind f es at ≡ not (f (getD es (at - 1) noHint))
   unfolding clearBehind
-  behind-at zero p e = absurd (omega arith)
-  behind-at (suc at) p e =
+  behind-at zero p = absurd (omega arith)
+  behind-at (suc at) p =
       let k : suc at - 1 ≡ at = omega arith in
-      ap not (rw k at e)
+      rw k
 
-  pub behind-none : (at : ℕ) → at ≤ 0 → true ≡ clearBehind f es at
+  pub behind-none : (at : ℕ) → at ≤ 0 → clearBehind f es at ≡ true
   unfolding clearBehind
   behind-none zero l = refl
   behind-none (suc at) l = absurd (omega arith)

@@ -1,7 +1,7 @@
 -- What an insertion comes to: where a test fails, the same map; where all hold, the edges that were
 -- asked for, at their place. Assumes nothing.
-use mathlib.Core.Path.{_≡_, refl, ap, _∙_}
-use mathlib.Core.Bool.{Bool, true, false, not, _&&_}
+use mathlib.Core.Path.{_≡_, refl, sym, ap, _∙_}
+use mathlib.Core.Bool.{Bool, true, false, not, _&&_, true≢false}
 use mathlib.Core.List.{List, _++_}
 use Prim.Native.Nat.{ℕ, _≤_}
 use lib.ListN.{length, take, drop}
@@ -53,41 +53,12 @@ again-alike true es s₀ s (One e) = cons (like-device e _) nil
 again-alike true es s₀ s (Two b t) = cons (like-device b _) (cons (like-device t _) nil)
 again-alike false es s₀ s e = alike-refl (edgesOf e)
 
--- what is dropped is so under any test before
-pub either : (b : Bool) → onlyIf b outcome.Dropped ≡ outcome.Dropped
-either true = refl
-either false = refl
-
 module _ (m : HintMap) (e : Edges) (initial : HintMap) (given : Bool) where
   abbrev at : ℕ
   at = placeFor m e
 
   abbrev p : Edges
   p = placedFor m e initial given
-
-  -- a test that fails drops the edges
-  pub drops : Fails m e initial given (outcomeOf m e initial given ≡ outcome.Dropped)
-  unfolding outcomeOf
-  drops =
-      record {
-        entry = λ t. rw t;
-        character = λ t. rw t (either (mayEnter (m .len) e));
-        below = λ t. rw (t, either (charClear (drop at (view m)) e)) (either (mayEnter (m .len) e));
-        above =
-            λ t. rw (t, either (belowClear (view m) at p), either (charClear (drop at (view m)) e))
-            (either (mayEnter (m .len) e));
-      }
-
-  -- what is not entered leaves the map
-  pub dropped : Dropped m e initial given
-  unfolding insertIn
-  dropped =
-      record {
-        entry = λ t. rw (drops .entry t);
-        character = λ t. rw (drops .character t);
-        below = λ t. rw (drops .below t);
-        above = λ t. rw (drops .above t);
-      }
 
   -- where all hold, the edges enter
   pub passed : Clear m e initial given → outcomeOf m e initial given ≡ outcome.Enters at p
@@ -126,6 +97,18 @@ module _ (m : HintMap) (e : Edges) (initial : HintMap) (given : Bool) where
       P (insertIn m e initial given)
   unfolding insertIn
   by-outcome P same put = cases (λ (o : Outcome). P (insertBy o m)) same put
+
+  -- what is not entered leaves the map
+  pub dropped : Dropped m e initial given
+  dropped =
+      let same : (Clear m e initial given → ⊥) → insertIn m e initial given ≡ m =
+      λ no. by-outcome (λ (q : HintMap). q ≡ m) refl (λ c. absurd (no c)) in
+      record {
+        entry = λ t. same (λ c. true≢false (sym (c .entry) ∙ t));
+        character = λ t. same (λ c. true≢false (sym (c .character) ∙ t));
+        below = λ t. same (λ c. true≢false (sym (c .below) ∙ t));
+        above = λ t. same (λ c. true≢false (sym (c .above) ∙ t));
+      }
 
   -- what enters has its place in the map, and room
   pub outcome-fits : Fits m (outcomeOf m e initial given)

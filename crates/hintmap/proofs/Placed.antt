@@ -3,7 +3,6 @@
 use mathlib.Core.Path.{_≡_, refl, sym, ap, _∙_}
 use mathlib.Core.Bool.{Bool, true, false, not, _&&_}
 use mathlib.Core.List.{List}
-use Prim.Native.Nat.{ℕ}
 use lib.ListN.{drop}
 use Rattle.fixed.specs.declared.Fixed.{Fixed}
 use Rattle.stems.specs.declared.edge.Hint.{Hint}

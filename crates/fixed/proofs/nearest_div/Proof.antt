@@ -47,12 +47,6 @@ module _ (c : tie.Else1) where
       pos (natAbs (c .before .args .p) + c .before .args .d / 2)
   above = rw (pp (c .before), hh (c .before)) (up-is (c .before .args .p) (c .before .args .d / 2) notneg)
 
-cast-whole : tie.Need-cast-whole
-cast-whole c = search needs
-
-cast-half : tie.Need-cast-half
-cast-half c = search needs
-
 sub-result : tie.Need-sub-result
 sub-result c = rw (down c) (neg-fits _ (big (c .before)))
 
@@ -92,4 +86,5 @@ returns-2 c =
 
 pub nearest-div-spec : {M : Type 1} → statement M
 nearest-div-spec =
-    tie.close (tie.spec cast-whole cast-half sub-result div-result returns add-result div-result-2 returns-2)
+    tie.close
+    (tie.spec (λ c. search needs) (λ c. search needs) sub-result div-result returns add-result div-result-2 returns-2)

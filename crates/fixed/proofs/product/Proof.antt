@@ -9,12 +9,6 @@ use Rattle.fixed.proofs.Nearest.{mul-bound, abs-fits}
 use Rattle.fixed.proofs.product.Statement.{statement}
 use Rattle.fixed.proofs.product.Tie as tie
 
-cast-result : tie.Need-cast-result
-cast-result c = search (needs, wide)
-
-cast-result-2 : tie.Need-cast-result-2
-cast-result-2 c = search (needs, wide)
-
 mul-result : tie.Need-mul-result
 mul-result c =
     rw (widened _ (c .fits .a), widened _ (c .fits .b))
@@ -24,4 +18,4 @@ returns : tie.Need-returns
 returns c = toZ-ofZ (mul-result c) ∙ rw (widened _ (c .fits .a), widened _ (c .fits .b))
 
 pub product-spec : {M : Type 1} → statement M
-product-spec = tie.close (tie.spec cast-result cast-result-2 mul-result returns)
+product-spec = tie.close (tie.spec (λ c. search (needs, wide)) (λ c. search (needs, wide)) mul-result returns)

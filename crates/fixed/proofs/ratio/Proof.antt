@@ -13,16 +13,10 @@ module _ (c : tie.After-product) where
   exact : c .product .result ≡ c .before .args .a *ℤ c .before .args .b
   exact = c .product .ensures ∙ rw (toZ-ofZ (c .before .fits .a), toZ-ofZ (c .before .fits .b))
 
-product-requires : tie.Need-product-requires
-product-requires c κs = search needs
-
 nearest-div-requires : tie.Need-nearest-div-requires
 nearest-div-requires c κs =
     let s = c .before in
     (rw (read w64 (c .product .result) (c .product .ok), exact c) (mul-bound _ _ (s .fits .a) (s .fits .b)), s .pre)
-
-wrap-requires : tie.Need-wrap-requires
-wrap-requires c κs = search needs
 
 returns : tie.Need-returns
 returns c =
@@ -36,4 +30,4 @@ returns c =
     )
 
 pub ratio-spec : {M : Type 1} → statement M
-ratio-spec = tie.close (tie.spec product-requires nearest-div-requires wrap-requires returns)
+ratio-spec = tie.close (tie.spec (λ c κs. search needs) nearest-div-requires (λ c κs. search needs) returns)

@@ -10,15 +10,9 @@ use Rattle.fixed.specs.Integers.{signed}
 use Rattle.fixed.proofs.signed.Statement.{statement}
 use Rattle.fixed.proofs.signed.Tie as tie
 
-cast-result : tie.Need-cast-result
-cast-result c = search needs
-
 returns : tie.Need-returns
 unfolding signed
 returns c = refl
-
-cast-result-2 : tie.Need-cast-result-2
-cast-result-2 c = search needs
 
 returns-2 : tie.Need-returns-2
 unfolding signed
@@ -28,4 +22,4 @@ returns-2 c =
     ap (toZ w32) back
 
 pub signed-spec : {M : Type 1} → statement M
-signed-spec = tie.close (tie.spec cast-result returns cast-result-2 returns-2)
+signed-spec = tie.close (tie.spec (λ c. search needs) returns (λ c. search needs) returns-2)

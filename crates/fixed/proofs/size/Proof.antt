@@ -30,9 +30,6 @@ fits c = abs-fits (pos (natAbs (c .before .args .x))) (omega (arith, small (c .b
 not : (c : tie.Else1) → T (B.not (ltZ (c .before .args .x) (pos 0)))
 not c = subst (λ (b : B.Bool). T (B.not b)) (sym (rw (toZ-ofZ (c .before .fits .x)) at (c .if1 .left))) tt
 
-cast-result : tie.Need-cast-result
-cast-result c = search (needs, wide)
-
 sub-result : tie.Need-sub-result
 sub-result c = rw (widened _ (c .before .fits .x), minus c) (fits c)
 
@@ -56,4 +53,4 @@ returns-2 c = search needs
 
 pub size-spec : {M : Type 1} → statement M
 size-spec =
-    tie.close (tie.spec cast-result sub-result cast-result-2 returns cast-result-3 returns-2)
+    tie.close (tie.spec (λ c. search (needs, wide)) sub-result cast-result-2 returns cast-result-3 returns-2)

@@ -20,12 +20,9 @@ low z h = ap (toZ w64) (masked 32 32 refl z h) ∙ toZ-pos w64 (omega (arith, lo
 cast-signed : tie.Need-cast-signed
 cast-signed c = rw (low _ (c .fits .x)) (tt, record { fits = low-lt 32 _ })
 
-signed-requires : tie.Need-signed-requires
-signed-requires c κs = search needs
-
 returns : tie.Need-returns
 unfolding wrap32
 returns c = read w32 (c .signed .result) (c .signed .ok) ∙ c .signed .ensures ∙ rw (low _ (c .before .fits .x))
 
 pub wrap-spec : {M : Type 1} → statement M
-wrap-spec = tie.close (tie.spec cast-signed signed-requires returns)
+wrap-spec = tie.close (tie.spec cast-signed (λ c κs. search needs) returns)

@@ -12,12 +12,6 @@ module _ (s : tie.Start) where
   fs : SFits w32 (s .args .self .bits)
   fs = search needs
 
-less-requires : tie.Need-less-requires
-less-requires c κs = search needs
-
-neg-requires : tie.Need-neg-requires
-neg-requires c κs = search needs
-
 returns : tie.Need-returns
 unfolding absF negF
 returns c =
@@ -32,4 +26,4 @@ returns-2 c =
     ap fromBits (abs-above _ (fs (l .before)) (sym (l .less .ensures) ∙ c .if1 .left))
 
 pub abs-spec : {M : Type 1} → statement M
-abs-spec = tie.close (tie.spec less-requires neg-requires returns returns-2)
+abs-spec = tie.close (tie.spec (λ c κs. search needs) (λ c κs. search needs) returns returns-2)

@@ -19,18 +19,6 @@ module _ (s : tie.Start) where
   fb : SFits w32 (s .args .b .bits)
   fb = search needs
 
-bits-of-requires : tie.Need-bits-of-requires
-bits-of-requires c κs = search needs
-
-bits-of-requires-2 : tie.Need-bits-of-requires-2
-bits-of-requires-2 c κs = search needs
-
-wrapping-add-u32-requires : tie.Need-wrapping-add-u32-requires
-wrapping-add-u32-requires c κs = search needs
-
-signed-requires : tie.Need-signed-requires
-signed-requires c κs = search needs
-
 returns : tie.Need-returns
 unfolding addF wrap32
 returns c =
@@ -43,4 +31,6 @@ returns c =
     ap signed (e ∙ low-add _ _ (wide (fs s)) (wide (fb s)) (add-fits (fs s) (fb s))))
 
 pub add-spec : {M : Type 1} → statement M
-add-spec = tie.close (tie.spec bits-of-requires bits-of-requires-2 wrapping-add-u32-requires signed-requires returns)
+add-spec =
+    tie.close
+    (tie.spec (λ c κs. search needs) (λ c κs. search needs) (λ c κs. search needs) (λ c κs. search needs) returns)

@@ -47,9 +47,6 @@ module _ (c : tie.After-size2) where
   divisor-2 : c .size2 .result ≡ natAbs (begin-2 .args .b .bits)
   divisor-2 = c .size2 .ensures ∙ rw (toZ-ofZ (fb begin-2))
 
-neg-requires : tie.Need-neg-requires
-neg-requires c κs = search needs
-
 returns : tie.Need-returns
 unfolding divF negF
 returns c =
@@ -65,9 +62,6 @@ returns-2 c =
     let zero : ofZ w32 (s .args .b .bits) ≡ 0 = search needs in
     ap wrapF (over-zero-above _ (rw (toZ-ofZ (fs s)) at (c .if2 .left)) ∙ over-zero _ _ (fb s) zero)
 
-size-requires : tie.Need-size-requires
-size-requires c κs = search needs
-
 ratio-requires : tie.Need-ratio-requires
 ratio-requires c κs = rw (divisor (c .before)) (size-below (begin (c .before) .args .b .bits) (below (c .before)))
 
@@ -77,9 +71,6 @@ returns-3 c =
     let size = c .before .before in
     ap fromBits (read w32 (c .ratio .result) (c .ratio .ok) ∙ c .ratio .ensures ∙
     rw (toZ-ofZ (fs (begin size)), divisor size) (ap wrap32 (over-below _ _ (below size))))
-
-size-requires-2 : tie.Need-size-requires-2
-size-requires-2 c κs = search needs
 
 ratio-requires-2 : tie.Need-ratio-requires-2
 ratio-requires-2 c κs =
@@ -97,12 +88,12 @@ pub div-spec : {M : Type 1} → statement M
 div-spec =
     tie.close
     (tie.spec
-    neg-requires
+    (λ c κs. search needs)
     returns
     returns-2
-    size-requires
+    (λ c κs. search needs)
     ratio-requires
     returns-3
-    size-requires-2
+    (λ c κs. search needs)
     ratio-requires-2
     returns-4)

@@ -5,9 +5,6 @@ use Rattle.fixed.specs.Fixed.{maxF}
 use Rattle.fixed.proofs.Fixed.max.Statement.{statement}
 use Rattle.fixed.proofs.Fixed.max.Tie as tie
 
-at-most-requires : tie.Need-at-most-requires
-at-most-requires c κs = search needs
-
 returns : tie.Need-returns
 unfolding maxF
 returns c = rw (sym (c .before .at-most .ensures), c .if1 .taken)
@@ -17,4 +14,4 @@ unfolding maxF
 returns-2 c = rw (sym (c .before .at-most .ensures), c .if1 .left)
 
 pub max-spec : {M : Type 1} → statement M
-max-spec = tie.close (tie.spec at-most-requires returns returns-2)
+max-spec = tie.close (tie.spec (λ c κs. search needs) returns returns-2)

@@ -5,9 +5,6 @@ use Rattle.fixed.specs.Fixed.{minF}
 use Rattle.fixed.proofs.Fixed.min.Statement.{statement}
 use Rattle.fixed.proofs.Fixed.min.Tie as tie
 
-at-most-requires : tie.Need-at-most-requires
-at-most-requires c κs = search needs
-
 returns : tie.Need-returns
 unfolding minF
 returns c = rw (sym (c .before .at-most .ensures), c .if1 .taken)
@@ -17,4 +14,4 @@ unfolding minF
 returns-2 c = rw (sym (c .before .at-most .ensures), c .if1 .left)
 
 pub min-spec : {M : Type 1} → statement M
-min-spec = tie.close (tie.spec at-most-requires returns returns-2)
+min-spec = tie.close (tie.spec (λ c κs. search needs) returns returns-2)

@@ -16,9 +16,6 @@ module _ (s : tie.Start) where
   fb : SFits w32 (s .args .b .bits)
   fb = search needs
 
-ratio-requires : tie.Need-ratio-requires
-ratio-requires c κs = search needs
-
 returns : tie.Need-returns
 unfolding mulF
 returns c =
@@ -26,4 +23,4 @@ returns c =
     ap fromBits (read w32 (c .ratio .result) (c .ratio .ok) ∙ c .ratio .ensures ∙ simp (toZ-ofZ (fs s), toZ-ofZ (fb s)))
 
 pub mul-spec : {M : Type 1} → statement M
-mul-spec = tie.close (tie.spec ratio-requires returns)
+mul-spec = tie.close (tie.spec (λ c κs. search needs) returns)

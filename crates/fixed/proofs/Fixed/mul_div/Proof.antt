@@ -25,9 +25,6 @@ module _ (s : tie.Start) where
 divisor : (c : tie.After-size) → c .size .result ≡ natAbs (c .before .before .args .c .bits)
 divisor c = c .size .ensures ∙ rw (toZ-ofZ (fc (c .before .before)))
 
-size-requires : tie.Need-size-requires
-size-requires c κs = search needs
-
 ratio-requires : tie.Need-ratio-requires
 ratio-requires c κs =
     let s = c .before .before .before .before in
@@ -41,4 +38,4 @@ returns c =
     simp (toZ-ofZ (fs s), toZ-ofZ (fb s), divisor (c .before .before .before)))
 
 pub mul-div-spec : {M : Type 1} → statement M
-mul-div-spec = tie.close (tie.spec size-requires ratio-requires returns)
+mul-div-spec = tie.close (tie.spec (λ c κs. search needs) ratio-requires returns)

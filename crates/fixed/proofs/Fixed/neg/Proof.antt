@@ -6,12 +6,9 @@ use Rattle.fixed.specs.Fixed.{wrapF, negF, subF}
 use Rattle.fixed.proofs.Fixed.neg.Statement.{statement}
 use Rattle.fixed.proofs.Fixed.neg.Tie as tie
 
-sub-requires : tie.Need-sub-requires
-sub-requires c κs = search needs
-
 returns : tie.Need-returns
 unfolding negF subF
 returns c = c .sub .ensures ∙ ap wrapF (+ℤ-idl (negℤ (c .before .args .self .bits)))
 
 pub neg-spec : {M : Type 1} → statement M
-neg-spec = tie.close (tie.spec sub-requires returns)
+neg-spec = tie.close (tie.spec (λ c κs. search needs) returns)

@@ -8,9 +8,6 @@ use Rattle.fixed.proofs.Bits.{cleared}
 use Rattle.fixed.proofs.Fixed.round.Statement.{statement}
 use Rattle.fixed.proofs.Fixed.round.Tie as tie
 
-add-requires : tie.Need-add-requires
-add-requires c κs = search needs
-
 returns : tie.Need-returns
 unfolding roundF
 returns c =
@@ -18,4 +15,4 @@ returns c =
     ap fromBits (cleared 15 16 refl _ f ∙ rw (c .before .before .add .ensures))
 
 pub round-spec : {M : Type 1} → statement M
-round-spec = tie.close (tie.spec add-requires returns)
+round-spec = tie.close (tie.spec (λ c κs. search needs) returns)

@@ -19,18 +19,6 @@ module _ (s : tie.Start) where
   fb : SFits w32 (s .args .b .bits)
   fb = search needs
 
-bits-of-requires : tie.Need-bits-of-requires
-bits-of-requires c κs = search needs
-
-bits-of-requires-2 : tie.Need-bits-of-requires-2
-bits-of-requires-2 c κs = search needs
-
-wrapping-sub-u32-requires : tie.Need-wrapping-sub-u32-requires
-wrapping-sub-u32-requires c κs = search needs
-
-signed-requires : tie.Need-signed-requires
-signed-requires c κs = search needs
-
 returns : tie.Need-returns
 unfolding subF wrap32
 returns c =
@@ -43,4 +31,6 @@ returns c =
     ap signed (low-sub _ _ _ (fs s) (fb s) (omega (arith, w .wrapping-sub-u32 .ok)) e))
 
 pub sub-spec : {M : Type 1} → statement M
-sub-spec = tie.close (tie.spec bits-of-requires bits-of-requires-2 wrapping-sub-u32-requires signed-requires returns)
+sub-spec =
+    tie.close
+    (tie.spec (λ c κs. search needs) (λ c κs. search needs) (λ c κs. search needs) (λ c κs. search needs) returns)

@@ -4,12 +4,9 @@ use Rattle.fixed.specs.Fixed.{twiceF, addF}
 use Rattle.fixed.proofs.Fixed.twice.Statement.{statement}
 use Rattle.fixed.proofs.Fixed.twice.Tie as tie
 
-add-requires : tie.Need-add-requires
-add-requires c κs = search needs
-
 returns : tie.Need-returns
 unfolding twiceF addF
 returns c = c .add .ensures
 
 pub twice-spec : {M : Type 1} → statement M
-twice-spec = tie.close (tie.spec add-requires returns)
+twice-spec = tie.close (tie.spec (λ c κs. search needs) returns)

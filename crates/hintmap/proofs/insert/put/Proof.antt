@@ -4,18 +4,20 @@ use borrow.Author.Needs.{needs}
 use mathlib.Core.Path.{_≡_, sym, ap, _∙_}
 use mathlib.Core.List.{List}
 use Prim.Native.Nat.{ℕ, _<_, _≤_, _+_, _-_}
+use native.Mathlib.Numerals.{add-one}
 use native.Mathlib.Omega.{arith}
-use lib.ListN.{length, take, set}
+use lib.IntN.{ℤ}
+use lib.ListN.{length}
+use lib.Seq.{sets}
 use Rattle.stems.specs.declared.edge.Hint.{Hint}
 use Rattle.stems.specs.Edge.{noHint}
-use Rattle.stems.specs.Lists.{edgesIn, held, Whole}
+use Rattle.stems.specs.Lists.{edgesIn, Whole}
 use Rattle.stems.proofs.Places.{edges-long, put-is, put-whole, copied-is, copied-whole}
 use Rattle.hintmap.specs.declared.insert.Edges.{Edges}
-use Rattle.hintmap.specs.Map.{putAt}
 use Rattle.hintmap.specs.Insert.{edgesOf}
-use Rattle.hintmap.proofs.Laws.{shifted, shifted-none, shifted-step-at}
+use Rattle.hintmap.specs.Lent.{Entered}
+use Rattle.hintmap.proofs.Laws.{shifted, shifted-none, shifted-step-at, gap-filled}
 use Rattle.hintmap.proofs.Enter.{enters-room}
-use Rattle.hintmap.proofs.Entering.{entered-one, entered-two}
 use Rattle.hintmap.proofs.insert.put.Statement.{statement}
 use Rattle.hintmap.proofs.insert.put.Tie as tie
 
@@ -42,41 +44,29 @@ module _ (c : tie.After-loop Inv-loop μ-loop) where
   abbrev o : tie.After-count Inv-loop μ-loop
   o = c .before .before
 
-  abbrev n : ℕ
-  n = o .count .result
-
   abbrev at : ℕ
   at = o .before .args .at
 
-  near : at + n ≤ 96
-  near = omega (arith, few o)
+  -- for as many as the case has
+  near : {e : Edges} → o .before .args .e ≡ e → at + length (edgesOf e) ≤ 96
+  near p = omega (arith, few o, o .count .ensures ∙ ap (λ (e : Edges). length (edgesOf e)) p)
 
-  lists : Whole (c .before .loop .lines) (c .before .loop .tags)
-  lists = c .before .loop .inv .1 .1 .0
-
-  open-at : edgesIn (c .before .loop .lines) (c .before .loop .tags) ≡ shifted (es o) (o .before .args .len) n at
-  open-at = c .before .loop .inv .1 .1 .1 ∙ ap (shifted (es o) (o .before .args .len) n) (omega arith)
-
-  longer : o .before .args .len + n ≡ o .before .args .len + length (edgesOf (o .before .args .e))
-  longer = ap (λ (k : ℕ). o .before .args .len + k) (o .count .ensures)
-
-  -- edges put in there are the case's
-  told : {e : Edges} {l : List Hint} → o .before .args .e ≡ e →
-      l ≡ putAt (take (o .before .args .len) (es o)) at (edgesOf e) →
-      l ≡ putAt (held (o .before .args .lines .now) (o .before .args .tags .now) (o .before .args .len)) at
-      (edgesOf (o .before .args .e))
-  told p q = q ∙ ap (λ (e : Edges). putAt (take (o .before .args .len) (es o)) at (edgesOf e)) (sym p)
-
--- as many as the case has
-one : (c : tie.After-known-told Inv-loop μ-loop) → c .before .before .before .before .before .count .result ≡ 1
-one c =
-    c .before .before .before .before .before .count .ensures ∙
-    ap (λ (e : Edges). length (edgesOf e)) (c .before .e .given .1)
-
-two : (c : tie.After-known-told2 Inv-loop μ-loop) → c .before .before .before .before .before .count .result ≡ 2
-two c =
-    c .before .before .before .before .before .count .ensures ∙
-    ap (λ (e : Edges). length (edgesOf e)) (c .before .e2 .given .1)
+  -- and these, put there, have entered
+  filled : {e : Edges} {ls : List ℤ} {ts : List ℕ} → o .before .args .e ≡ e → Whole ls ts →
+      edgesIn ls ts ≡ sets (edgesIn (c .before .loop .lines) (c .before .loop .tags)) at (edgesOf e) →
+      Entered (o .before .args .lines .now) (o .before .args .tags .now) (o .before .args .len) at
+      (edgesOf (o .before .args .e)) (o .before .args .len + o .count .result) ls ts
+  filled p w q =
+      let len = o .before .args .len in
+      let n = o .count .result in
+      let k : c .before .loop .k ≡ at = omega arith in
+      record {
+        whole = w;
+        longer = ap (λ (k : ℕ). len + k) (o .count .ensures);
+        edges =
+            rw (q, sym p, c .before .loop .inv .1 .1 .1 ∙ ap (shifted (es o) len n) k)
+            (gap-filled (es o) len at n (edgesOf (o .before .args .e)) (search needs) (room o) (o .count .ensures));
+      }
 
 loop-holds : tie.Need-loop-holds Inv-loop μ-loop
 loop-holds c = (
@@ -110,66 +100,39 @@ loop-again c =
       ),
     )
 
-put-edge-requires : tie.Need-put-edge-requires Inv-loop μ-loop
-put-edge-requires c κs = omega (arith, near (c .before .before .before .before .before), one (c .before .before))
-
-put-edge-requires-2 : tie.Need-put-edge-requires-2 Inv-loop μ-loop
-put-edge-requires-2 c κs = omega (arith, near (c .before .before .before .before .before), two (c .before .before))
-
-put-edge-requires-3 : tie.Need-put-edge-requires-3 Inv-loop μ-loop
-put-edge-requires-3 c κs =
-    omega (
-      arith,
-      near (c .before .before .before .before .before .before .before .before),
-      two (c .before .before .before .before .before),
-    )
-
 returns : tie.Need-returns Inv-loop μ-loop
 returns c =
     let h = c .before .before .before .before .before .before in
-    let x = c .before .before .before .before .e .given .0 .0 in
-    let m = c .put-edge .ensures in
-    let i : at h < 96 = omega (arith, near h, one (c .before .before .before)) in
-    let e = put-is _ _ (lists h) _ i _ m ∙ ap (λ (s : List Hint). set s (at h) x) (open-at h) in
-    record {
-      whole = put-whole _ _ (lists h) _ i _ m;
-      longer = longer h;
-      edges =
-          told h (c .before .before .before .before .e .given .1)
-          (ap (take (o h .before .args .len + n h)) e ∙
-          entered-one (es (o h)) (o h .before .args .len) (at h) (search needs) (n h) x (room (o h))
-          (one (c .before .before .before)));
-    }
+    let p = c .before .before .before .before .e .given .1 in
+    let w = h .before .loop .inv .1 .1 .0 in
+    let i : at h < 96 = omega (arith, near h p) in
+    filled h p (put-whole _ _ w _ i _ (c .put-edge .ensures)) (put-is _ _ w _ i _ (c .put-edge .ensures))
 
 returns-2 : tie.Need-returns-2 Inv-loop μ-loop
 returns-2 c =
     let h = c .before .before .before .before .before .before .before .before .before in
-    let b = c .before .before .before .before .before .before .before .e2 .given .0 .0 in
-    let t = c .before .before .before .before .before .before .before .e2 .given .0 .1 .0 in
-    let m = c .put-edge3 .ensures in
-    let m₁ = c .before .before .before .put-edge2 .ensures in
-    let i : at h + 1 < 96 = omega (arith, near h, two (c .before .before .before .before .before .before)) in
-    let w = put-whole _ _ (lists h) _ (omega arith) _ m₁ in
-    let e = put-is _ _ w _ i _ m ∙ ap (λ (s : List Hint). set s (at h + 1) t)
-    (put-is _ _ (lists h) _ (omega arith) _ m₁ ∙ ap (λ (s : List Hint). set s (at h) b) (open-at h)) in
-    record {
-      whole = put-whole _ _ w _ i _ m;
-      longer = longer h;
-      edges =
-          told h (c .before .before .before .before .before .before .before .e2 .given .1)
-          (ap (take (o h .before .args .len + n h)) e ∙
-          entered-two (es (o h)) (o h .before .args .len) (at h) (search needs) (n h) b t (room (o h))
-          (two (c .before .before .before .before .before .before)));
-    }
+    let p = c .before .before .before .before .before .before .before .e2 .given .1 in
+    let w = h .before .loop .inv .1 .1 .0 in
+    let m = c .before .before .before .put-edge2 .ensures in
+    let i : at h + 1 < 96 = omega (arith, near h p) in
+    let w′ = put-whole _ _ w _ (omega arith) _ m in
+    filled h p (put-whole _ _ w′ _ i _ (c .put-edge3 .ensures))
+    (put-is _ _ w′ _ i _ (c .put-edge3 .ensures) ∙ rw (put-is _ _ w _ (omega arith) _ m, add-one (at h)))
 
 pub put-spec : {M : Type 1} → statement M
 put-spec =
     tie.close
     (tie.spec Inv-loop μ-loop (λ c κs. search needs) loop-holds (λ c. search needs)
     (λ c. omega (arith, few (c .before .before .before .before))) copy-edge-requires (λ c. search needs) loop-again
-    (λ c. search needs) put-edge-requires
+    (λ c. search needs)
+    (λ c κs. omega (arith, near (c .before .before .before .before .before) (c .before .before .before .e .given .1)))
     (λ c. omega (arith, few (o (c .before .before .before .before .before .before)))) (λ c. search needs)
-    put-edge-requires-2 (λ c. omega (arith, near (c .before .before .before .before .before .before .before .before)))
-    put-edge-requires-3
+    (λ c κs. omega (arith, near (c .before .before .before .before .before) (c .before .before .before .e2 .given .1)))
+    (λ c. omega (arith, few (o (c .before .before .before .before .before .before .before .before))))
+    (λ c κs. omega (
+      arith,
+      near (c .before .before .before .before .before .before .before .before)
+          (c .before .before .before .before .before .before .e2 .given .1),
+    ))
     (λ c. omega (arith, few (o (c .before .before .before .before .before .before .before .before .before)))) returns
     returns-2)
