@@ -20,8 +20,12 @@ pub record Retried (ls : List ℤ) (ts : List ℕ) (n : ℕ) (at : List ℕ) (by
   pub lent : Lent ls′ ts n
   pub map : (s : Fixed) → mapIn ls′ ts n s ≡ secondPass k (notesIn at by k) (mapIn ls ts n s)
 
+-- numbers enough for the moves of all notes
+abbrev pub NoteRoom : List ℤ → Type 0
+NoteRoom by = length by ≡ maxHints
+
 -- the map is adjusted, whatever its scale; the list that was lent for moves stays as long as it was
 pub record Adjusted (ls : List ℤ) (ts : List ℕ) (n : ℕ) (ls′ by′ : List ℤ) : Type 0 where
   pub lent : Lent ls′ ts n
   pub map : (s : Fixed) → mapIn ls′ ts n s ≡ adjustOf (mapIn ls ts n s)
-  pub long : length by′ ≡ maxHints
+  pub long : NoteRoom by′

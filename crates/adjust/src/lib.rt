@@ -9,12 +9,11 @@ use stems::edge_at;
 use stems::put_line;
 ghost use mathlib.Core.Path.{_≡_};
 ghost use Prim.Native.Nat.{_-_, _<_, _≤_};
-ghost use lib.ListN.{length};
 ghost use Rattle.stems.specs.Edge.{maxHints, isPair};
 ghost use Rattle.adjust.specs.Adjust.{toNext, movesOf, besideBy, roomUp, roomDown, choiceOf, noteOf, movedHint};
 ghost use Rattle.adjust.specs.Adjust.{settleOf, rescaledHint};
 ghost use Rattle.adjust.specs.Pass.{nextPlace, upperBy, lowerBy};
-ghost use Rattle.adjust.specs.Adjusted.{Retried, Adjusted};
+ghost use Rattle.adjust.specs.Adjusted.{Retried, NoteRoom, Adjusted};
 ghost use Rattle.hintmap.specs.Lent.{Lent};
 
 // The smallest move up and the smallest move down. A move down is not above 0.
@@ -294,7 +293,7 @@ fn second_pass(
 // ahead: what it leaves short is noted for the second. The moves of the notes go into `by`, whatever
 // lies there.
 pub fn adjust(lines: &mut [i32; LINES], tags: &[u8; TAGS], len: usize, by: &mut [i32; MAX_HINTS])
-    requires { ⌜ Lent (now lines) (now tags) len × (length (now by) ≡ maxHints) ⌝ }
+    requires { ⌜ Lent (now lines) (now tags) len × NoteRoom (now by) ⌝ }
     ensures { λ r. ⌜ Adjusted (now (lines .entry)) (now (tags .entry)) len (now (lines .exit)) (now (by .exit)) ⌝ }
 {
     let mut at = [0u8; MAX_HINTS];

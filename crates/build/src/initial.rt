@@ -14,12 +14,9 @@ use stems::TAGS;
 use zones::HintState;
 use zones::ZONE_NUMBERS;
 ghost use mathlib.Core.Path.{_≡_};
-ghost use lib.ListN.{length};
-ghost use Rattle.stems.specs.Edge.{maxHints};
 ghost use Rattle.stems.specs.Lists.{Whole, stemsIn};
-ghost use Rattle.zones.specs.Numbers.{ListedZones};
 ghost use Rattle.build.specs.Build.{initialOf};
-ghost use Rattle.build.specs.Made.{MadeInitial};
+ghost use Rattle.build.specs.Made.{NoteRoom, Serving, MadeInitial};
 
 // Ports `build` where it is the initial map's, into lists: all stems that are locked or captured, and
 // the baseline. The adjustment has `notes` for its own. Gives the map's length.
@@ -32,10 +29,9 @@ pub fn make_initial(
     count: usize,
     notes: &mut [i32; MAX_HINTS],
 ) -> usize
-    requires { ⌜ Whole (now lines) (now tags) ×
-        (ListedZones state (now zones) × (length (now notes) ≡ maxHints)) ⌝ }
+    requires { ⌜ Whole (now lines) (now tags) × Serving state (now zones) (now notes) ⌝ }
     ensures { λ r. ⌜ MadeInitial state (stemsIn (now (stems .entry)) count) r (now (lines .exit)) (now (tags .exit)) ×
-        (length (now (notes .exit)) ≡ maxHints) ⌝ }
+        NoteRoom (now (notes .exit)) ⌝ }
 {
     let boxed = put_em_box(lines, tags, state.do_em_box_hints, state.scale);
     let mut rest = [255u8; HINT_MASK_SIZE];

@@ -16,11 +16,8 @@ use stems::TAGS;
 use zones::HintState;
 use zones::ZONE_NUMBERS;
 ghost use mathlib.Core.Path.{_≡_};
-ghost use lib.ListN.{length};
-ghost use Rattle.stems.specs.Edge.{maxHints};
-ghost use Rattle.zones.specs.Numbers.{ListedZones};
 ghost use Rattle.build.specs.Build.{builtOf};
-ghost use Rattle.build.specs.Made.{Makable, MadeMap};
+ghost use Rattle.build.specs.Made.{NoteRoom, Serving, Makable, MadeMap};
 
 // A map, and the stems after its build.
 pub struct Built {
@@ -44,10 +41,9 @@ pub fn make_map(
     base: Fixed,
     notes: &mut [i32; MAX_HINTS],
 ) -> usize
-    requires { ⌜ Makable (now lines) (now tags) (now stems) size ×
-        (ListedZones state (now zones) × (length (now notes) ≡ maxHints)) ⌝ }
+    requires { ⌜ Makable (now lines) (now tags) (now stems) size × Serving state (now zones) (now notes) ⌝ }
     ensures { λ r. ⌜ MadeMap state mask (now (stems .entry)) count (now (initial .entry)) size base r
-        (now (lines .exit)) (now (tags .exit)) (now (stems .exit)) × (length (now (notes .exit)) ≡ maxHints) ⌝ }
+        (now (lines .exit)) (now (tags .exit)) (now (stems .exit)) × NoteRoom (now (notes .exit)) ⌝ }
 {
     let boxed = put_em_box(lines, tags, state.do_em_box_hints, state.scale);
     let mut rest = mask.bytes;

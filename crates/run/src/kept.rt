@@ -19,7 +19,7 @@ ghost use lib.ListN.{length};
 ghost use Rattle.stems.specs.Edge.{maxHints};
 ghost use Rattle.stems.specs.Mask.{maskSize};
 ghost use Rattle.stems.specs.Lists.{Whole};
-ghost use Rattle.zones.specs.Numbers.{ListedZones};
+ghost use Rattle.build.specs.Made.{NoteRoom, Serving};
 ghost use Rattle.run.specs.Kept.{noSizes, Stemmed, Masked, Cleared, Based, Buildable, Countered};
 ghost use Rattle.run.specs.Kept.{Mappable, Readied};
 
@@ -116,10 +116,10 @@ impl Sizes {
         stems: &[i32; STEM_NUMBERS],
         notes: &mut [i32; MAX_HINTS],
     ) -> Sizes
-        requires { ⌜ Whole (now initial) (now tags) × ((self .initial ≤ maxHints) ×
-            (ListedZones state (now zones) × (length (now notes) ≡ maxHints))) ⌝ }
+        requires { ⌜ Whole (now initial) (now tags) ×
+            ((self .initial ≤ maxHints) × Serving state (now zones) (now notes)) ⌝ }
         ensures { λ r. ⌜ Based state self (now (initial .entry)) (now (stems .entry)) r (now (initial .exit))
-            (now (tags .exit)) × (length (now (notes .exit)) ≡ maxHints) ⌝ }
+            (now (tags .exit)) × NoteRoom (now (notes .exit)) ⌝ }
     {
         if self.based {
             return self;
@@ -142,10 +142,9 @@ impl Sizes {
         stems: &mut [i32; STEM_NUMBERS],
         notes: &mut [i32; MAX_HINTS],
     ) -> Sizes
-        requires { ⌜ Buildable self (now initial) (now tags) (now stems) ×
-            (ListedZones state (now zones) × (length (now notes) ≡ maxHints)) ⌝ }
+        requires { ⌜ Buildable self (now initial) (now tags) (now stems) × Serving state (now zones) (now notes) ⌝ }
         ensures { λ r. ⌜ Countered state mask self (now (initial .entry)) (now (stems .entry)) r (now (initial .exit))
-            (now (tags .exit)) (now (stems .exit)) × (length (now (notes .exit)) ≡ maxHints) ⌝ }
+            (now (tags .exit)) (now (stems .exit)) × NoteRoom (now (notes .exit)) ⌝ }
     {
         let sizes = self.with_initial(initial, tags, state, zones, stems, notes);
         let mut thrown = [0i32; LINES];
@@ -178,10 +177,10 @@ impl Sizes {
         notes: &mut [i32; MAX_HINTS],
     ) -> Sizes
         requires { ⌜ Mappable self (now map) (now initial) (now tags) (now stems) (now mask) ×
-            (ListedZones state (now zones) × (length (now notes) ≡ maxHints)) ⌝ }
+            Serving state (now zones) (now notes) ⌝ }
         ensures { λ r. ⌜ Readied state self (now (initial .entry)) (now (mask .entry)) (now (stems .entry)) r
             (now (map .exit)) (now (initial .exit)) (now (tags .exit)) (now (stems .exit)) ×
-            (length (now (notes .exit)) ≡ maxHints) ⌝ }
+            NoteRoom (now (notes .exit)) ⌝ }
     {
         let based = self.with_initial(initial, tags, state, zones, stems, notes);
         let present = HintMask::new(mask);

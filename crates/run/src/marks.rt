@@ -13,8 +13,7 @@ use zones::ZONE_NUMBERS;
 ghost use mathlib.Core.Path.{_≡_};
 ghost use Prim.Native.Nat.{_+_, _≤_};
 ghost use lib.ListN.{length, take, drop};
-ghost use Rattle.stems.specs.Edge.{maxHints};
-ghost use Rattle.zones.specs.Numbers.{ListedZones};
+ghost use Rattle.build.specs.Made.{NoteRoom, Serving};
 ghost use Rattle.run.specs.Run.{maskAt};
 ghost use Rattle.run.specs.Kept.{Markable, Marked};
 
@@ -50,10 +49,10 @@ pub(crate) fn marked(
     notes: &mut [i32; MAX_HINTS],
 ) -> Sizes
     requires { ⌜ Markable (now script) from marking sizes (now mask) (now stems) (now initial) (now tags) ×
-        (ListedZones state (now zones) × (length (now notes) ≡ maxHints)) ⌝ }
+        Serving state (now zones) (now notes) ⌝ }
     ensures { λ r. ⌜ Marked state (now (script .entry)) from marking sizes (now (mask .entry)) (now (stems .entry))
         (now (initial .entry)) r (now (mask .exit)) (now (stems .exit)) (now (initial .exit)) (now (tags .exit)) ×
-        (length (now (notes .exit)) ≡ maxHints) ⌝ }
+        NoteRoom (now (notes .exit)) ⌝ }
 {
     match marking {
         Marking::Bad => sizes,

@@ -14,7 +14,7 @@ use Rattle.pen.specs.Drawn.{Drew}
 use Rattle.pen.proofs.Lent.{lent, back}
 use Rattle.pen.proofs.Drew.{drew-wrote, drew-refused}
 use Rattle.hints.specs.Path.{hasPoint, strokeBy}
-use Rattle.zones.specs.Numbers.{ListedZones}
+use Rattle.build.specs.Made.{Serving}
 use Rattle.words.specs.Words.{rawAt}
 use Rattle.commands.specs.declared.reading.Read.{Read}
 use Rattle.commands.specs.declared.reading.Command.the-variants.{Mark, Draw}
@@ -31,7 +31,7 @@ abbrev Inv-loop : tie.InvT-loop
 Inv-loop script part first n from state out₀ zones mask₀ stems₀ initial₀ map₀ tags₀ notes₀ sizes₀ pen₀ next₀ at₀ out
     mask stems initial map tags notes sizes pen next at =
     Running state script part first n from out₀ mask stems initial map tags sizes pen next at out ×
-    (ListedZones state zones × (length notes ≡ 96))
+    Serving state zones notes
 
 abbrev μ-loop : tie.MeasureT-loop
 μ-loop script part first n from state out₀ zones mask₀ stems₀ initial₀ map₀ tags₀ notes₀ sizes₀ pen₀ next₀ at₀ out
