@@ -12,21 +12,6 @@ use Rattle.hint.proofs.Program.{program-words}
 use Rattle.hint.proofs.answer_to.Statement.{statement}
 use Rattle.hint.proofs.answer_to.Tie as tie
 
-slice-aggregate-run-script : tie.Need-slice-aggregate-run-script
-slice-aggregate-run-script c = search needs
-
-run-script-requires : tie.Need-run-script-requires
-run-script-requires c κs = search needs
-
-slice-aggregate-answered : tie.Need-slice-aggregate-answered
-slice-aggregate-answered c = search needs
-
-answered-requires : tie.Need-answered-requires
-answered-requires c κs = search needs
-
-same-length : tie.Need-same-length
-same-length c = search needs
-
 returns : tie.Need-returns
 returns c =
     let a = c .before .before in
@@ -42,10 +27,5 @@ returns c =
 pub answer-to-spec : {M : Type 1} → statement M
 answer-to-spec =
     tie.close
-    (tie.spec
-    slice-aggregate-run-script
-    run-script-requires
-    slice-aggregate-answered
-    answered-requires
-    same-length
-    returns)
+    (tie.spec (λ c. search needs) (λ c κs. search needs) (λ c. search needs) (λ c κs. search needs)
+    (λ c. search needs) returns)

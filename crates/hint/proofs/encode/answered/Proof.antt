@@ -71,36 +71,12 @@ module _ (c : tie.After-result-words) where
   few : c .result-words .result ≤ length lent
   few = omega (arith, many, result-short lent)
 
-code-requires : tie.Need-code-requires
-code-requires c κs = search needs
-
-store-requires : tie.Need-store-requires
-store-requires c κs = search needs
-
-place-requires : tie.Need-place-requires
-place-requires c κs = search needs
-
-cast-store : tie.Need-cast-store
-cast-store c = search needs
-
-store-requires-2 : tie.Need-store-requires-2
-store-requires-2 c κs = search needs
-
-code-requires-2 : tie.Need-code-requires-2
-code-requires-2 c κs = search needs
-
-same-length : tie.Need-same-length
-same-length c = search needs
-
 returns : tie.Need-returns
 returns c =
     let s = c .before .before .before .before in
     let w = refused-words (said s) (resultIn (begin s .args .out .now))
     (omega (arith, c .before .code2 .ensures, c .if1 .taken)) in
     record { number = omega (arith, ap length w); memory = both s ∙ ap (laid (bytes s) 0) (sym w) }
-
-result-words-requires : tie.Need-result-words-requires
-result-words-requires c κs = search needs
 
 slice-aggregate-store-words : tie.Need-slice-aggregate-store-words
 slice-aggregate-store-words c = sym (length-take-le _ _ (few (c .before .before)))
@@ -126,9 +102,6 @@ add-result c =
     let r = c .before .before .before .before .before in
     omega (arith, few r, begin (stored r) .good)
 
-same-length-2 : tie.Need-same-length-2
-same-length-2 c = search needs
-
 returns-2 : tie.Need-returns-2
 returns-2 c =
     let n = c .before .before in
@@ -151,19 +124,6 @@ returns-2 c =
 pub answered-spec : {M : Type 1} → statement M
 answered-spec =
     tie.close
-    (tie.spec
-    code-requires
-    store-requires
-    place-requires
-    cast-store
-    store-requires-2
-    code-requires-2
-    same-length
-    returns
-    result-words-requires
-    slice-aggregate-store-words
-    store-words-requires
-    mul-result
-    add-result
-    same-length-2
-    returns-2)
+    (tie.spec (λ c κs. search needs) (λ c κs. search needs) (λ c κs. search needs) (λ c. search needs)
+    (λ c κs. search needs) (λ c κs. search needs) (λ c. search needs) returns (λ c κs. search needs)
+    slice-aggregate-store-words store-words-requires mul-result add-result (λ c. search needs) returns-2)

@@ -20,21 +20,6 @@ returns c =
     let o = c .before .args .out .now in
     omega (arith, length-take (4 + bitsOf (getD o 3 (pos 0))) o)
 
-shared-slice-copy-out-bits-of : tie.Need-shared-slice-copy-out-bits-of
-shared-slice-copy-out-bits-of c = search needs
-
-bits-of-requires : tie.Need-bits-of-requires
-bits-of-requires c κs = search needs
-
-cast-least : tie.Need-cast-least
-cast-least c = search needs
-
-add-least : tie.Need-add-least
-add-least c = search needs
-
-least-requires : tie.Need-least-requires
-least-requires c κs = search needs
-
 returns-2 : tie.Need-returns-2
 unfolding resultIn
 returns-2 c =
@@ -47,11 +32,5 @@ returns-2 c =
 pub result-words-spec : {M : Type 1} → statement M
 result-words-spec =
     tie.close
-    (tie.spec
-    returns
-    shared-slice-copy-out-bits-of
-    bits-of-requires
-    cast-least
-    add-least
-    least-requires
-    returns-2)
+    (tie.spec returns (λ c. search needs) (λ c κs. search needs) (λ c. search needs) (λ c. search needs)
+    (λ c κs. search needs) returns-2)
