@@ -1,8 +1,10 @@
 //! Runs the same scripts through the static library and through the Rust, in turn, and prints the ratio of their times.
-//! Ours is held against one way of running the Rust at a time: they share the hinter's code, and one that came after
-//! another on the same scripts would find every branch foretold, where ours comes after theirs alone.
-//!     driver [ROUNDS]        the ratios
+//!     driver [ROUNDS [WAY]]  the ratios
 //!     driver only SHAPE N    N turns of one shape (0 to 2) through the static library alone, for a profiler
+//! WAY says how the sides take turns on a block of scripts:
+//!     two      ours and one other at a time; the way without a word
+//!     twice    the same, where each runs the block twice in its turn, and the second time counts
+//!     four     all of them. Three of the four share the Rust hinter's code, and ours shares none
 
 mod shapes;
 
@@ -69,21 +71,33 @@ fn range(counts: impl Iterator<Item = usize> + Clone) -> String {
     format!("{} to {}", counts.clone().min().unwrap(), counts.max().unwrap())
 }
 
-/// Nanoseconds of ours and of another side for each block of scripts, round after round. The two take turns, and each
-/// comes first in every other round.
-fn measure(cases: &[Case], block: usize, rounds: usize, other: usize) -> [Vec<Vec<u64>>; 2] {
+/// Which of so many sides comes at a turn of a round: each comes first in its time, and every other round goes
+/// backwards.
+fn order(round: usize, turn: usize, sides: usize) -> usize {
+    let turn = if round % 2 == 0 { turn } else { sides - 1 - turn };
+    (turn + round / 2) % sides
+}
+
+/// Nanoseconds of each of some sides for each block of scripts, round after round.
+fn measure(cases: &[Case], block: usize, rounds: usize, sides: &[usize], twice: bool) -> Vec<Vec<Vec<u64>>> {
     let blocks: Vec<&[Case]> = cases.chunks(block).collect();
     let mut out = vec![0; cases.iter().map(|case| case.room).max().unwrap()];
-    let mut times = [(); 2].map(|()| vec![Vec::with_capacity(rounds); blocks.len()]);
+    let mut pass = |side: usize, block: &[Case]| {
+        let start = Instant::now();
+        for case in block {
+            black_box(run(side, black_box(case), &mut out));
+        }
+        start.elapsed().as_nanos() as u64
+    };
+    let mut times = vec![vec![Vec::with_capacity(rounds); blocks.len()]; sides.len()];
     for round in 0..rounds {
         for (number, block) in blocks.iter().enumerate() {
-            for turn in 0..2 {
-                let which = (turn + round) % 2;
-                let start = Instant::now();
-                for case in *block {
-                    black_box(run(which * other, black_box(case), &mut out));
+            for turn in 0..sides.len() {
+                let which = order(round, turn, sides.len());
+                if twice {
+                    pass(sides[which], block);
                 }
-                times[which][number].push(start.elapsed().as_nanos() as u64);
+                times[which][number].push(pass(sides[which], block));
             }
         }
     }
@@ -101,7 +115,7 @@ fn least_and_middle(blocks: &mut [Vec<u64>]) -> [f64; 2] {
     sums
 }
 
-fn ratios(rounds: usize) {
+fn ratios(rounds: usize, way: &str) {
     for shape in shapes() {
         let bytes: Vec<Vec<u8>> = shape.scripts.iter().map(|script| script.bytes()).collect();
         let cases = cases(&shape, &bytes);
@@ -119,10 +133,21 @@ fn ratios(rounds: usize) {
             std::process::exit(1);
         }
         println!("    {:32}{:>12}{:>12}{:>16}{:>16}", "", "ns/script", "ours", "ratio, least", "ratio, median");
+        let sums = |sides: &[usize]| -> Vec<[f64; 2]> {
+            let twice = way == "twice";
+            measure(&cases, shape.block, rounds / 10 + 1, sides, twice);
+            let mut times = measure(&cases, shape.block, rounds, sides, twice);
+            times.iter_mut().map(|blocks| least_and_middle(blocks)).collect()
+        };
+        let together = (way == "four").then(|| sums(&[0, 1, 2, 3]));
         for (other, name) in SIDES.iter().enumerate().skip(1) {
-            measure(&cases, shape.block, rounds / 10 + 1, other);
-            let [ours, theirs] =
-                measure(&cases, shape.block, rounds, other).map(|mut blocks| least_and_middle(&mut blocks));
+            let (ours, theirs) = match &together {
+                Some(all) => (all[0], all[other]),
+                None => {
+                    let both = sums(&[0, other]);
+                    (both[0], both[1])
+                }
+            };
             let each = |least: f64| least / scripts.len() as f64;
             print!("    {:32}{:12.0}{:12.0}", name, each(theirs[0]), each(ours[0]));
             println!("{:16.2}{:16.2}", ours[0] / theirs[0], ours[1] / theirs[1]);
@@ -147,6 +172,13 @@ fn main() {
     let number = |at: usize| words.get(at).and_then(|word| word.parse::<usize>().ok());
     match words.first().map(String::as_str) {
         Some("only") => only(number(1).unwrap_or(0), number(2).unwrap_or(1)),
-        _ => ratios(number(0).unwrap_or(400)),
+        _ => {
+            let way = words.get(1).map_or("two", String::as_str);
+            if !["two", "twice", "four"].contains(&way) {
+                eprintln!("usage: driver [ROUNDS [two|twice|four]]");
+                std::process::exit(2);
+            }
+            ratios(number(0).unwrap_or(400), way)
+        }
     }
 }
