@@ -1,3 +1,4 @@
 pub mod Records
 pub mod Strokes
 pub mod Drawn
+pub mod Counting

@@ -1,8 +1,11 @@
 // The pen of a drawing, and the record words that its strokes write (01, "Path records").
+mod counting;
 mod drawn;
 mod records;
 mod strokes;
 
+pub use counting::Counted;
+pub use counting::Trail;
 pub use drawn::CallAnswer;
 pub use drawn::Drawn;
 pub use records::BARE_RECORD;

@@ -6,5 +6,6 @@ pub mod Clearing
 pub mod Building
 pub mod Keeping
 pub mod Looking
+pub mod Rooms
 pub mod Bounds
 pub mod Unique

@@ -13,6 +13,11 @@ pub record Step : Type 0 where
   pub place : ℕ
   pub words : List ℤ
 
+-- those of some calls, first to last
+abbrev pub wordsAlong : List Step → List ℤ
+wordsAlong [] = []
+wordsAlong (t ∷ ts) = t .words ++ wordsAlong ts
+
 -- the answer, and the words of the calls before the first that does not fit
 pub record Fitted : Type 0 where
   pub said : Answer

@@ -10,10 +10,11 @@ use Rattle.hints.specs.declared.drawing.Drawing.{Drawing}
 use Rattle.hints.specs.Calls.{wordsFor, nextOf, newDrawing}
 use Rattle.words.specs.declared.answer.Answer.the-variants.{Ok}
 use Rattle.words.specs.Words.{rawAt, numberAt}
+use Rattle.run.specs.Room.{wordsAlong}
 use Rattle.run.specs.Run.{Asked, stepsOf}
 use Rattle.run.proofs.Bounds.{ten, calls-many}
 use Rattle.script.specs.Script.{commandsIn, callsIn, stepsIn, zonesOf, scriptOf}
-use Rattle.theorems.specs.Demand1.{Checked, wordsAlong, Ample}
+use Rattle.theorems.specs.Demand1.{Checked, Ample}
 use Rattle.theorems.proofs.Demand1.{gives}
 
 -- the record words of some calls are at most ten for each

@@ -24,11 +24,11 @@ use Rattle.header.proofs.Fine.{header-refusing, params-refusing}
 use Rattle.commands.specs.declared.reading.Command.{Command}
 use Rattle.commands.specs.Commands.{CommandAt}
 use Rattle.commands.specs.Faults.{isBad, hasBadMask, commandRows}
-use Rattle.run.specs.Room.{Step, Fitted, fitted}
+use Rattle.run.specs.Room.{Step, wordsAlong, Fitted, fitted}
+use Rattle.run.proofs.Rooms.{fits-whole, fits-until, Over, fits-or-not}
 use Rattle.script.specs.Script.{commandsIn, checkRows, stepsIn, Result, endedBy, scriptOf}
-use Rattle.theorems.specs.Demand1.{Overflow, HeaderFine, Checked, header, pairs, FaultWhen, wordsAlong, small}
+use Rattle.theorems.specs.Demand1.{Overflow, HeaderFine, Checked, header, pairs, FaultWhen, small}
 use Rattle.theorems.specs.Demand1.{records, When, Left}
-use Rattle.theorems.proofs.Rooms.{fits-whole, fits-until, Over, fits-or-not}
 use Rattle.theorems.proofs.Params.{scale-answer, blues-answer, pairs-answer, params-or-row}
 use Rattle.theorems.proofs.Faults.{command-answer, mask-answer, Fault, fine-or-fault}
 

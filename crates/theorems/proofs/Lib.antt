@@ -1,4 +1,3 @@
-pub mod Rooms
 pub mod Params
 pub mod Faults
 pub mod Demand1

@@ -25,10 +25,10 @@ use Rattle.hints.specs.Calls.{newDrawing}
 use Rattle.words.specs.Words.{rawAt, numberAt}
 use Rattle.hints.specs.Calls.{Call, stem, hintMask, counterMask, clear, close, draw, nextOf, wordsFor, hintsOf}
 use Rattle.script.specs.Count.{sizeOf, recordsBy, recordsIn}
+use Rattle.run.specs.Room.{wordsAlong}
 use Rattle.run.specs.Run.{Asked, stepsOf}
 use Rattle.script.proofs.Counting.{enough}
 use Rattle.script.specs.Script.{zonesOf, callsIn, stepsIn}
-use Rattle.theorems.specs.Demand1.{wordsAlong}
 use Rattle.theorems.specs.WholeRecords.{Record, WholeRecords, move, line, curve, close as closes, finish, none}
 use Rattle.theorems.specs.WholeRecords.{first}
 

@@ -19,7 +19,7 @@ use Rattle.header.specs.Params.{pairsIn, paramRows}
 use Rattle.commands.specs.declared.reading.Command.{Command}
 use Rattle.commands.specs.Commands.{CommandAt}
 use Rattle.commands.specs.Faults.{isBad, hasBadMask, commandRows}
-use Rattle.run.specs.Room.{Step}
+use Rattle.run.specs.Room.{Step, wordsAlong}
 use Rattle.script.specs.Script.{commandsIn, checkRows, stepsIn, resultWords}
 
 -- ---- what is fine
@@ -73,11 +73,6 @@ pub record FaultWhen (s : List ℕ) (faulty : Command → Bool) (p : ℕ) : Type
   pub fine : firstOf (commandRows (rawAt s 7) before) ≡ Ok
   pub holds : faulty (at .command) ≡ true
   pub place : at .place ≡ p
-
--- the record words of some commands, first to last
-abbrev pub wordsAlong : List Step → List ℤ
-wordsAlong [] = []
-wordsAlong (t ∷ ts) = t .words ++ wordsAlong ts
 
 -- the first command whose records do not fit, and those before it
 pub record Overflow (s : List ℕ) (room p : ℕ) (before : List Step) : Type 0 where

@@ -4,9 +4,9 @@ use mathlib.Core.List.{List, [], _∷_}
 use Prim.Native.Nat.{ℕ, zero, suc, _+_, _*_, _^_}
 use lib.Dec.{leb}
 use lib.ListN.{getD}
-use lib.IntN.{ℤ}
+use lib.IntN.{ℤ, pos}
 use Rattle.fixed.specs.declared.Fixed.{Fixed}
-use Rattle.fixed.specs.Integers.{signed}
+use Rattle.fixed.specs.Integers.{bitsOf, signed}
 use Rattle.fixed.specs.Fixed.{fromBits}
 
 -- word i as a number from 0 to 2^32 − 1
@@ -18,7 +18,12 @@ rawAt s i =
 abbrev pub negative : ℕ → Bool
 negative n = leb (2 ^ 31) n
 
--- the rest is said of words, whatever gives word i: a script's bytes, by rawAt, or a list of words
+-- word i of a list of words, or 0 past its end
+abbrev pub givenWord : List ℤ → ℕ → ℕ
+givenWord ws i = bitsOf (getD ws i (pos 0))
+
+-- the rest is said of words, whatever gives word i: a script's bytes, by rawAt, or a list of words,
+-- by givenWord
 -- word i, signed
 abbrev pub wordAt : (ℕ → ℕ) → ℕ → ℤ
 wordAt w i = signed (w i)

@@ -3,18 +3,12 @@
 -- read.
 use mathlib.Core.List.{List}
 use Prim.Native.Nat.{ℕ}
-use lib.IntN.{ℤ, pos}
-use lib.ListN.{getD}
-use Rattle.fixed.specs.Integers.{bitsOf}
+use lib.IntN.{ℤ}
 use Rattle.zones.specs.declared.blues.Blues.{Blues}
 use Rattle.zones.specs.declared.state.HintParams.{HintParams}
 use Rattle.zones.specs.Zones.{maxBlues}
-use Rattle.words.specs.Words.{wordAt, numberAt}
+use Rattle.words.specs.Words.{givenWord, wordAt, numberAt}
 use Rattle.header.specs.Params.{pairsFrom}
-
--- word i, or 0
-abbrev pub givenWord : List ℤ → ℕ → ℕ
-givenWord ws i = bitsOf (getD ws i (pos 0))
 
 -- the list from word i on, whose count is word n
 abbrev pub bluesIn : (ℕ → ℕ) → ℕ → ℕ → Blues

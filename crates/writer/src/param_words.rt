@@ -9,9 +9,9 @@ ghost use mathlib.Core.Path.{_≡_};
 ghost use Prim.Native.Nat.{_+_, _≤_};
 ghost use lib.IntN.{pos};
 ghost use lib.ListN.{getD};
-ghost use Rattle.words.specs.Words.{numberAt};
+ghost use Rattle.words.specs.Words.{givenWord, numberAt};
 ghost use Rattle.header.specs.Params.{pairAt};
-ghost use Rattle.writer.specs.ParamWords.{givenWord, bluesIn, paramsIn};
+ghost use Rattle.writer.specs.ParamWords.{bluesIn, paramsIn};
 
 // Where the numbers, the counts and the lists stand.
 const BLUE_SCALE: usize = 0;

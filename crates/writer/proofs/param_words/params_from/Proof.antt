@@ -5,8 +5,8 @@ use mir.Val.{SFits}
 use mir.Facts.{toZ-ofZ}
 use Rattle.fixed.specs.Integers.{wrap32}
 use Rattle.fixed.proofs.Bits.{wrap-id}
-use Rattle.words.specs.Words.{wordAt}
-use Rattle.writer.specs.ParamWords.{givenWord, paramsIn}
+use Rattle.words.specs.Words.{givenWord, wordAt}
+use Rattle.writer.specs.ParamWords.{paramsIn}
 use borrow.Author.Needs.{needs}
 use Rattle.writer.proofs.param_words.params_from.Statement.{statement}
 use Rattle.writer.proofs.param_words.params_from.Tie as tie

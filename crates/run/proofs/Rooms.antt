@@ -10,8 +10,7 @@ use lib.Dec.{leb}
 use lib.ListN.{length, length-append}
 use borrow.Author.Tests.{leb-true, leb-false, le-leb, lt-leb}
 use Rattle.words.specs.declared.answer.Answer.the-variants.{Ok, NoRoom}
-use Rattle.run.specs.Room.{Step, Fitted, fitBy, fitted}
-use Rattle.theorems.specs.Demand1.{wordsAlong}
+use Rattle.run.specs.Room.{Step, wordsAlong, Fitted, fitBy, fitted}
 
 -- all records fit
 pub fits-whole : (room : ℕ) (ts : List Step) → length (wordsAlong ts) ≤ room →
