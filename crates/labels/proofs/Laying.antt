@@ -63,7 +63,7 @@ laid-apart i next (ws ∷ wss) out h k =
 pub laid-whole : (wss : List (List ℤ)) (out : List ℤ) → length (labelWords wss) ≤ length out →
     laidFrom 2 (headerOf (length wss)) wss (placed out 0 (pos 1 ∷ pos (length wss) ∷ [])) ≡
     written (labelWords wss) out
-unfolding labelWords written
+unfolding labelWords written over
 laid-whole wss out h =
     let m = headerOf (length wss) in
     let js = joined wss in
@@ -78,8 +78,4 @@ laid-whole wss out h =
     sym (placed-either start 2 ps (omega arith) js m (omega arith) (omega arith)) ∙
     ap (λ (l : List ℤ). placed l m js) head ∙
     placed-behind out 0 (two ++ ps) (omega arith) js m (omega arith) ∙
-    placed-start out (two ++ ps ++ js) ∙ overs
-  where
-    overs : over (labelWords wss) out ≡ written (labelWords wss) out
-    unfolding over
-    overs = refl
+    placed-start out (two ++ ps ++ js)

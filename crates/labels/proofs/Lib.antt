@@ -1,3 +1,4 @@
 pub mod Walking
 pub mod Laying
 pub mod Rooms
+pub mod Measuring

@@ -1,8 +1,8 @@
 -- Laws of a walk over the glyphs, two lengths a turn: what they take of both lists. Assumes nothing.
 use mathlib.Core.Path.{_≡_, refl, sym, ap, _∙_}
-use mathlib.Core.Bool.{Bool, true, false, _||_}
+use mathlib.Core.Bool.{Bool, true, false, _||_, not}
 use mathlib.Core.List.{List, [], _∷_}
-use Prim.Native.Nat.{ℕ, _+_, _-_, _*_, _/_, _%_, _≤_, _<_}
+use Prim.Native.Nat.{ℕ, zero, suc, _+_, _-_, _*_, _/_, _%_, _≤_, _<_}
 use native.Mathlib.Numerals.{add-one}
 use native.Mathlib.Omega.{arith}
 use lib.Dec.{eqb, ltb}
@@ -12,6 +12,7 @@ use lib.Seq.{drop-cons, drop-drop}
 use borrow.Author.Tests.{ltb-false, eqb-true, eqb-false, not-false}
 use Rattle.fixed.specs.Integers.{bitsOf}
 use Rattle.header.proofs.Tests.{both-false}
+use Rattle.labels.specs.Labels.{headerOf}
 use Rattle.labels.specs.Glyphs.{Glyph, glyph, glyphsOf, below0, anyNegative, everyOther, total, miscounted}
 
 -- ---- lengths from a place on
@@ -56,6 +57,10 @@ pub negative-none : (ls : List ℤ) (i : ℕ) → length ls ≤ i → anyNegativ
 unfolding anyNegative
 negative-none ls i h = ap anyNegative (drop-of-length-le ls h)
 
+pub positive-at : (ls : List ℤ) (i : ℕ) → i < length ls → anyNegative (drop i ls) ≡ false →
+    (below0 (at ls i) ≡ false) × (anyNegative (drop (i + 1) ls) ≡ false)
+positive-at ls i h e = both-false (below0 (at ls i)) (anyNegative (drop (i + 1) ls)) (sym (negative-at ls i h) ∙ e)
+
 -- ---- how a walk stands: so many glyphs are left, which have what is left of both lists
 pub record Walk (ls words : List ℤ) (masks : List ℕ) (i word byte : ℕ) : Type 0 where
   pub left : ℕ
@@ -70,18 +75,23 @@ pub walk : (ls words : List ℤ) (masks : List ℕ) → miscounted ls (length wo
     Walk ls words masks 0 0 0
 unfolding miscounted
 walk ls words masks e =
-    let a = both-false _ _ e in
-    let b = both-false _ _ (a .1) in
-    let c = both-false _ _ (b .1) in
-    let d = both-false _ _ (c .1) in
-    let odd = eqb-false (length ls % 2) 1 (b .0) in
+    let full = not (eqb (total (everyOther ls)) (length words)) in
+    let fullBytes = not (eqb (total (everyOther (drop 1 ls))) (length masks)) in
+    let odd = eqb (length ls % 2) 1 in
+    let a = both-false (ltb 128 (length ls)) (odd || (anyNegative ls || (full || fullBytes))) e in
+    let b = both-false odd (anyNegative ls || (full || fullBytes)) (a .1) in
+    let c = both-false (anyNegative ls) (full || fullBytes) (b .1) in
+    let d = both-false full fullBytes (c .1) in
+    let even = eqb-false (length ls % 2) 1 (b .0) in
+    let words-full = eqb-true (total (everyOther ls)) (length words) (not-false _ (d .0)) in
+    let bytes-full = eqb-true (total (everyOther (drop 1 ls))) (length masks) (not-false _ (d .1)) in
     record {
       left = length ls / 2;
       pairs = omega arith;
-      few = ltb-false _ _ (a .0);
+      few = ltb-false 128 (length ls) (a .0);
       positive = c .0;
-      ofWords = eqb-true _ _ (not-false _ (d .0));
-      ofBytes = eqb-true _ _ (not-false _ (d .1));
+      ofWords = omega (arith, words-full);
+      ofBytes = omega (arith, bytes-full);
     }
 
 module _ {ls words : List ℤ} {masks : List ℕ} {i word byte : ℕ} (w : Walk ls words masks i word byte) where
@@ -99,15 +109,12 @@ module _ {ls words : List ℤ} {masks : List ℕ} {i word byte : ℕ} (w : Walk 
     pub both-there : i + 1 < length ls
     both-there = omega (arith, w .pairs)
 
-    -- neither is negative
-    pub positive-first : below0 (at ls i) ≡ false
-    positive-first = both-false _ _ (sym (negative-at ls i h) ∙ w .positive) .0
+    -- neither is negative, nor one behind them
+    pub first-positive : (below0 (at ls i) ≡ false) × (anyNegative (drop (i + 1) ls) ≡ false)
+    first-positive = positive-at ls i h (w .positive)
 
-    behind-first : anyNegative (drop (i + 1) ls) ≡ false
-    behind-first = both-false _ _ (sym (negative-at ls i h) ∙ w .positive) .1
-
-    pub positive-second : below0 (at ls (i + 1)) ≡ false
-    positive-second = both-false _ _ (sym (negative-at ls (i + 1) both-there) ∙ behind-first) .0
+    pub second-positive : (below0 (at ls (i + 1)) ≡ false) × (anyNegative (drop (i + 1 + 1) ls) ≡ false)
+    second-positive = positive-at ls (i + 1) both-there (first-positive .1)
 
     module _ {n b : ℕ} (e : n ≡ bitsOf (at ls i)) (f : b ≡ bitsOf (at ls (i + 1))) where
       -- it lies within both lists
@@ -126,8 +133,7 @@ module _ {ls words : List ℤ} {masks : List ℕ} {i word byte : ℕ} (w : Walk 
             left = w .left - 1;
             pairs = omega (arith, w .pairs);
             few = w .few;
-            positive =
-                rw k at (both-false _ _ (sym (negative-at ls (i + 1) both-there) ∙ behind-first) .1);
+            positive = rw k at (second-positive .1);
             ofWords = omega (arith, e, w .ofWords, total-at ls i h);
             ofBytes = omega (arith, f, w .ofBytes, rw m at (total-at ls (i + 1) both-there));
           }
@@ -138,3 +144,25 @@ module _ {ls words : List ℤ} {masks : List ℕ} {i word byte : ℕ} (w : Walk 
       first-of =
           ap (λ (l : List ℤ). glyphsOf l (drop word words) (drop byte masks)) (two-at ls i both-there) ∙
           rw (sym e, sym f, drop-drop n word words, drop-drop b byte masks)
+
+-- two lengths are a glyph
+pub glyphs-many : (ls words : List ℤ) (masks : List ℕ) (k : ℕ) → length ls ≡ 2 * k →
+    length (glyphsOf ls words masks) ≡ k
+unfolding glyphsOf
+glyphs-many [] words masks k e = omega arith
+glyphs-many (n ∷ []) words masks k e = absurd (odd k e)
+  where
+    odd : (k : ℕ) → 1 ≡ 2 * k → ⊥
+    odd k e = omega arith
+glyphs-many (n ∷ b ∷ ls) words masks zero e = absurd (none (length ls) e)
+  where
+    none : (m : ℕ) → suc (suc m) ≡ 2 * 0 → ⊥
+    none m e = omega arith
+glyphs-many (n ∷ b ∷ ls) words masks (suc k) e =
+    ap suc (glyphs-many ls (drop (bitsOf n) words) (drop (bitsOf b) masks) k (omega arith))
+
+-- so the words before the records are two more than the lengths
+pub header-is : {ls words : List ℤ} {masks : List ℕ} → Walk ls words masks 0 0 0 →
+    2 + length ls ≡ headerOf (length (glyphsOf ls words masks))
+header-is {ls} {words} {masks} w =
+    omega (arith, w .pairs, glyphs-many ls words masks (w .left) (omega (arith, w .pairs)))

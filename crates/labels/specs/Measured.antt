@@ -12,7 +12,7 @@ use Rattle.words.specs.declared.answer.Answer.the-variants.{Ok}
 use Rattle.words.specs.Rows.{firstOr}
 use Rattle.words.specs.Answers.{refuses}
 use Rattle.run.specs.Counting.{countAlong}
-use Rattle.labels.specs.declared.survey.Survey.{Survey}
+use Rattle.labels.specs.declared.survey.Surveyed.{Surveyed}
 use Rattle.labels.specs.declared.measure.Taken.{Taken}
 use Rattle.labels.specs.declared.label_answer.LabelAnswer.{LabelAnswer}
 use Rattle.labels.specs.declared.label_answer.LabelAnswer.the-variants.{Written}
@@ -24,7 +24,7 @@ unfoldable pub sizeOf : Glyph → ℕ
 sizeOf g = countAlong newTrail (callsIn g)
 
 -- a faulty glyph is not counted
-unfoldable pub surveyOf : Glyph → Survey
+unfoldable pub surveyOf : Glyph → Surveyed
 surveyOf g = record { answer = faultOf g; words = cond (refuses (faultOf g)) 0 (sizeOf g) }
 
 -- the sum of some counts behind others

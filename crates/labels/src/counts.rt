@@ -1,21 +1,24 @@
 // Whether the lengths are those of glyphs that fill both lists.
 use fixed::bits_of;
 ghost use mathlib.Core.Path.{_≡_};
-ghost use mathlib.Core.Bool.{false};
 ghost use Prim.Native.Nat.{_≤_, _<_};
 ghost use lib.IntN.{pos};
 ghost use lib.ListN.{length, getD, drop};
 ghost use Rattle.fixed.specs.Integers.{bitsOf};
+ghost use Rattle.words.specs.Words.{negative};
 ghost use Rattle.labels.specs.Glyphs.{below0, anyNegative, everyOther, total, miscounted};
 
 // Two lengths a glyph.
 const MAX_LENGTHS: usize = 128;
 
+// 2^31, from which on 32 bits are negative.
+const NEGATIVE: usize = 2147483648;
+
 // A length as a count.
 pub(crate) fn size_at(lengths: &[i32], i: usize) -> usize
     requires { ⌜ i < length (now lengths) ⌝ }
     ensures { λ r. ⌜ (r ≡ bitsOf (getD (now (lengths .entry)) i (pos 0))) × ((r < 4294967296) ×
-        (below0 (getD (now (lengths .entry)) i (pos 0)) ≡ false → r < 2147483648)) ⌝ }
+        (below0 (getD (now (lengths .entry)) i (pos 0)) ≡ negative r)) ⌝ }
 {
     bits_of(lengths[i]) as usize
 }
@@ -24,7 +27,7 @@ fn any_negative(lengths: &[i32]) -> bool
     ensures { λ r. ⌜ r ≡ anyNegative (now (lengths .entry)) ⌝ }
 {
     for i in 0..lengths.len() {
-        if lengths[i] < 0 {
+        if NEGATIVE <= size_at(lengths, i) {
             return true;
         }
     }

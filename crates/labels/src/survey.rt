@@ -10,13 +10,13 @@ ghost use lib.ListN.{length};
 ghost use Rattle.labels.specs.Glyphs.{glyph};
 ghost use Rattle.labels.specs.Measured.{surveyOf};
 
-pub struct Survey {
+pub struct Surveyed {
     pub answer: Answer,
     pub words: usize,
 }
 
 // No map is built: kinds and character points alone decide how many words there are.
-pub(crate) fn survey(words: &[i32], masks: &[u8]) -> Survey
+pub(crate) fn survey(words: &[i32], masks: &[u8]) -> Surveyed
     requires { ⌜ (length (now words) < 2147483648) × (length (now masks) < 2147483648) ⌝ }
     ensures { λ r. ⌜ (r ≡ surveyOf (glyph (now (words .entry)) (now (masks .entry)))) ×
         (r .words ≤ 10 * length (now (words .entry))) ⌝ }
@@ -30,7 +30,7 @@ pub(crate) fn survey(words: &[i32], masks: &[u8]) -> Survey
         let command = read.command;
         let fault = fault_in(command, bytes, at);
         if fault.code() != 0 {
-            return Survey {
+            return Surveyed {
                 answer: fault,
                 words: 0,
             };
@@ -43,7 +43,7 @@ pub(crate) fn survey(words: &[i32], masks: &[u8]) -> Survey
         trail = counted.trail;
         count = count + counted.words;
     }
-    Survey {
+    Surveyed {
         answer: Answer::Ok,
         words: count,
     }
