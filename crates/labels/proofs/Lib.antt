@@ -2,3 +2,5 @@ pub mod Walking
 pub mod Laying
 pub mod Rooms
 pub mod Measuring
+pub mod Filled
+pub mod Surveys
