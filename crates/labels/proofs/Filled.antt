@@ -4,24 +4,25 @@ use mathlib.Core.List.{List, [], _∷_, _++_, map}
 use Prim.Native.Nat.{ℕ, _+_, _-_, _*_, _/_, _≤_, _<_}
 use native.Mathlib.Omega.{arith}
 use lib.IntN.{ℤ, pos}
-use lib.ListN.{length, take, drop, set, length-drop, length-map}
+use lib.ListN.{length, take, drop, length-drop, length-map}
+use lib.Seq.{length-take-le}
 use Rattle.fixed.specs.Integers.{bitsOf}
 use Rattle.zones.specs.declared.state.HintState.{HintState}
 use Rattle.pen.specs.Records.{written}
 use Rattle.hints.specs.Calls.{newDrawing}
 use Rattle.words.specs.Bytes.{placed}
 use Rattle.words.proofs.Placing.{placed-length}
-use Rattle.words.specs.declared.answer.Answer.the-variants.{Ok}
 use Rattle.run.specs.declared.running.Ran.{Ran}
 use Rattle.run.specs.Run.{stepsOf, endingOf, ranOf, Ended}
 use Rattle.run.specs.Room.{Fitted, fitted, wordsAlong}
 use Rattle.run.proofs.Rooms.{fits-whole}
 use Rattle.run.proofs.Counting.{counted}
-use Rattle.labels.specs.Glyphs.{Glyph, glyph, glyphsOf, faultOf, callsIn, recordsOf}
+use Rattle.labels.specs.Glyphs.{Glyph, glyph, glyphsOf, callsIn, recordsOf}
 use Rattle.labels.specs.Labels.{headerOf, labelWords}
-use Rattle.labels.specs.Measured.{sizeOf, sumFrom, Faultless, Fillable}
-use Rattle.labels.proofs.Walking.{at, Walk, walk, rest, none-left, onward, first-of, header-is, glyphs-many}
-use Rattle.labels.proofs.Laying.{written-at, two-stored, laidFrom, laid-whole}
+use Rattle.labels.specs.Measured.{sizeOf, sumFrom, Faultless, Settable, setAt, Fillable}
+use Rattle.labels.proofs.Walking.{at, Walk, walk, rest, none-left, words-there, onward, first-of, header-is}
+use Rattle.labels.proofs.Walking.{glyphs-many}
+use Rattle.labels.proofs.Laying.{written-at, laidFrom, laid-whole}
 use Rattle.labels.proofs.Rooms.{result-length, sum-least}
 
 -- a glyph's records have as many words as were counted
@@ -58,11 +59,11 @@ module _ (st : HintState) (g : Glyph) (out : List ℤ) (next : ℕ) (h : next + 
       )
 
 module _ (ls words : List ℤ) (masks : List ℕ) (st : HintState) (out₀ : List ℤ) where
-  abbrev result : List ℤ
-  result = written (labelWords (map (recordsOf st) (glyphsOf ls words masks))) out₀
+  abbrev records : List Glyph → List (List ℤ)
+  records gs = map (recordsOf st) gs
 
   -- the glyphs that are left have no fault, their records fit, and laid over the output they give
-  -- the result
+  -- what all of them laid over the first gives
   pub record Filling (next i word byte : ℕ) (out : List ℤ) : Type 0 where
     pub walks : Walk ls words masks i word byte
     pub faultless : Faultless (rest walks)
@@ -70,36 +71,44 @@ module _ (ls words : List ℤ) (masks : List ℕ) (st : HintState) (out₀ : Lis
     pub small : sumFrom next (map sizeOf (rest walks)) < 2147483648
     pub same : length out ≡ length out₀
     pub header : 2 + length ls ≤ next
-    pub laid : laidFrom (2 + i) next (map (recordsOf st) (rest walks)) out ≡ result
+    pub laid : laidFrom (2 + i) next (records (rest walks)) out ≡
+        laidFrom 2 (2 + length ls) (records (glyphsOf ls words masks)) out₀
 
   -- before the first glyph
-  pub filling : Fillable ls words masks (length out₀) →
-      Filling (2 + length ls) 0 0 0 (set (set out₀ 0 (pos 1)) 1 (pos (length ls / 2)))
+  pub filling : Fillable ls words masks (length out₀) → Filling (2 + length ls) 0 0 0 out₀
   filling p =
-      let gs = glyphsOf ls words masks in
       let w = walk ls words masks (p .counted) in
       let h = header-is w in
-      let k = length-map gs (recordsOf st) in
-      let n : length ls / 2 ≡ length (map (recordsOf st) gs) =
-      omega (arith, w .pairs, k, glyphs-many ls words masks (w .left) (omega (arith, w .pairs))) in
-      let m : 2 + length ls ≡ headerOf (length (map (recordsOf st) gs)) = omega (arith, h, k) in
-      let least = sum-least (headerOf (length gs)) (map sizeOf gs) in
-      let two = two-stored out₀ 0 (pos 1) (pos (length ls / 2)) (omega (arith, p .fits)) in
-      let same = placed-length out₀ 0 (pos 1 ∷ pos (length ls / 2) ∷ []) (omega (arith, p .fits)) in
-      rw two (record {
+      record {
         walks = w;
         faultless = p .faultless;
-        fits = rw h (omega (arith, p .fits, same));
+        fits = rw h (p .fits);
         small = rw h (p .word);
-        same = same;
+        same = refl;
         header = omega arith;
-        laid = rw (m, n) (laid-whole (map (recordsOf st) gs) out₀ (omega (arith, p .fits, result-is st gs)));
-      })
+        laid = refl;
+      }
+
+-- what all of them laid behind the first two words gives is the result
+pub laid-result : (ls words : List ℤ) (masks : List ℕ) (st : HintState) (out : List ℤ) →
+    Fillable ls words masks (length out) →
+    laidFrom 2 (2 + length ls) (map (recordsOf st) (glyphsOf ls words masks))
+    (placed out 0 (pos 1 ∷ pos (length ls / 2) ∷ [])) ≡
+    written (labelWords (map (recordsOf st) (glyphsOf ls words masks))) out
+laid-result ls words masks st out p =
+    let gs = glyphsOf ls words masks in
+    let w = walk ls words masks (p .counted) in
+    let k = length-map gs (recordsOf st) in
+    let n : length ls / 2 ≡ length (map (recordsOf st) gs) =
+    omega (arith, w .pairs, k, glyphs-many ls words masks (w .left) (omega (arith, w .pairs))) in
+    let m : 2 + length ls ≡ headerOf (length (map (recordsOf st) gs)) = omega (arith, header-is w, k) in
+    rw (m, n) (laid-whole (map (recordsOf st) gs) out (omega (arith, p .fits, result-is st gs)))
 
 module _ {ls words : List ℤ} {masks : List ℕ} {st : HintState} {out₀ : List ℤ} {next i word byte : ℕ} {out : List ℤ}
     (m : Filling ls words masks st out₀ next i word byte out) where
   -- after the last
-  pub filled : length ls ≤ i → out ≡ result ls words masks st out₀
+  pub filled : length ls ≤ i →
+      out ≡ laidFrom 2 (2 + length ls) (map (recordsOf st) (glyphsOf ls words masks)) out₀
   unfolding laidFrom
   filled h =
       ap (λ (gs : List Glyph). laidFrom (2 + i) next (map (recordsOf st) gs) out) (sym (none-left (m .walks) h)) ∙
@@ -116,37 +125,41 @@ module _ {ls words : List ℤ} {masks : List ℕ} {st : HintState} {out₀ : Lis
     first : rest (m .walks) ≡ here ∷ behind
     first = first-of (m .walks) h e f
 
-    pub faultless-here : (faultOf here ≡ Ok) × Faultless behind
-    faultless-here = subst Faultless first (m .faultless)
-
     sums : sumFrom next (map sizeOf (rest (m .walks))) ≡ sumFrom (next + sizeOf here) (map sizeOf behind)
     unfolding sumFrom
     sums = ap (λ (gs : List Glyph). sumFrom next (map sizeOf gs)) first
 
     -- its records fit
-    pub room-here : (next + sizeOf here ≤ length out) × (next + sizeOf here < 2147483648)
-    room-here =
+    pub settable : n < 2147483648 → Settable here (2 + i) next (length out)
+    settable k =
         let l = sum-least (next + sizeOf here) (map sizeOf behind) in
-        (omega (arith, sums, m .fits), omega (arith, sums, m .small))
+        let there = words-there (m .walks) h e f in
+        record {
+          short = omega (arith, k, length-take-le n (drop word words) (omega (arith, there, length-drop word words)));
+          faultless = subst Faultless first (m .faultless) .0;
+          before = omega (arith, m .header, m .walks .pairs);
+          fits = omega (arith, sums, m .fits);
+          word = omega (arith, sums, m .small);
+        }
 
     -- and once they and their place are there, so are the others
     pub onward-filling : {k : ℕ} → k ≡ length (recordsOf st here) →
-        Filling ls words masks st out₀ (next + k) (i + 2) (word + n) (byte + b)
-        (set (set (placed out next (recordsOf st here)) (2 + i) (pos next)) (2 + i + 1) (pos k))
+        Filling ls words masks st out₀ (next + k) (i + 2) (word + n) (byte + b) (setAt st here (2 + i) next out)
     unfolding laidFrom
     onward-filling {k} q =
         let ws = recordsOf st here in
-        let z = q ∙ size-is st here in
-        let r = room-here in
-        let sum : sumFrom (next + k) (map sizeOf behind) ≡ sumFrom next (map sizeOf (rest (m .walks))) = rw z (sym sums) in
+        let z = size-is st here in
+        let l = sum-least (next + sizeOf here) (map sizeOf behind) in
+        let sum : sumFrom (next + k) (map sizeOf behind) ≡ sumFrom next (map sizeOf (rest (m .walks))) =
+        rw (q ∙ z) (sym sums) in
         let o = placed out next ws in
-        let g = placed-length out next ws (omega (arith, q, z, r .0)) in
+        let g = placed-length out next ws (omega (arith, z, sums, m .fits)) in
         let j : 2 + (i + 2) ≡ 2 + i + 2 = omega arith in
-        let two = two-stored o (2 + i) (pos next) (pos k) (omega (arith, g, r .0, m .header, m .walks .pairs)) in
-        let t = placed-length o (2 + i) (pos next ∷ pos k ∷ []) (omega (arith, g, r .0, m .header, m .walks .pairs)) in
-        rw two (record {
+        let t = placed-length o (2 + i) (pos next ∷ pos (length ws) ∷ [])
+        (omega (arith, g, sums, m .fits, m .header, m .walks .pairs)) in
+        record {
           walks = onward (m .walks) h e f;
-          faultless = faultless-here .1;
+          faultless = subst Faultless first (m .faultless) .1;
           fits = omega (arith, sum, m .fits, t, g);
           small = omega (arith, sum, m .small);
           same = t ∙ g ∙ m .same;
@@ -154,4 +167,4 @@ module _ {ls words : List ℤ} {masks : List ℕ} {st : HintState} {out₀ : Lis
           laid =
               rw (j, q)
               (sym (ap (λ (gs : List Glyph). laidFrom (2 + i) next (map (recordsOf st) gs) out) first) ∙ m .laid);
-        })
+        }
