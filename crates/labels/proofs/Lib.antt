@@ -4,3 +4,4 @@ pub mod Rooms
 pub mod Measuring
 pub mod Filled
 pub mod Surveys
+pub mod Answering

@@ -59,7 +59,12 @@ put-two-requires c κs =
     (omega (arith, ap length (ran r .1), l, p .before, p .fits), (omega (arith, p .word), omega (arith, ran r .0, n, p .word)))
 
 same-length : tie.Need-same-length
-same-length c = ?
+same-length c =
+    let t = c .before in
+    let r = t .before .before .before in
+    t .put-two .kept .0 ∙
+    same-len-mid (next r) (length (out r) - next r) (out r) (r .run-given .last .1 .1 .1 .0)
+    (r .run-given .kept .1 .1 .1 .0)
 
 returns : tie.Need-returns
 returns c =
