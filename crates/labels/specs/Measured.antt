@@ -5,10 +5,12 @@ use mathlib.Core.Bool.{Bool, true, false, cond}
 use mathlib.Core.List.{List, [], _∷_, _++_, map}
 use Prim.Native.Nat.{ℕ, _+_, _≤_, _<_}
 use lib.Dec.{ltb}
-use lib.IntN.{ℤ}
+use lib.IntN.{ℤ, pos}
 use lib.ListN.{length}
+use Rattle.zones.specs.declared.state.HintState.{HintState}
 use Rattle.pen.specs.Counting.{newTrail}
 use Rattle.words.specs.declared.answer.Answer.the-variants.{Ok}
+use Rattle.words.specs.Bytes.{placed}
 use Rattle.words.specs.Rows.{firstOr}
 use Rattle.words.specs.Answers.{refuses}
 use Rattle.run.specs.Counting.{countAlong}
@@ -16,7 +18,7 @@ use Rattle.labels.specs.declared.survey.Surveyed.{Surveyed}
 use Rattle.labels.specs.declared.measure.Taken.{Taken}
 use Rattle.labels.specs.declared.label_answer.LabelAnswer.{LabelAnswer}
 use Rattle.labels.specs.declared.label_answer.LabelAnswer.the-variants.{Written}
-use Rattle.labels.specs.Glyphs.{Glyph, glyphsOf, miscounted, faultOf, callsIn}
+use Rattle.labels.specs.Glyphs.{Glyph, glyphsOf, miscounted, faultOf, callsIn, recordsOf}
 use Rattle.labels.specs.Labels.{headerOf, glyphRows, roomRows}
 
 -- the words of a glyph's records, by kinds and character points
@@ -52,6 +54,19 @@ measuredOf gs room =
     (glyphRows 1 gs ++ roomRows room 0 (headerOf (length gs)) (map sizeOf gs))
 
 -- ---- what the tests leave
+-- a glyph without a fault, whose records fit behind a word and behind their place in the header
+pub record Settable (g : Glyph) (slot next room : ℕ) : Type 0 where
+  pub short : length (g .words) < 2147483648
+  pub faultless : faultOf g ≡ Ok
+  pub before : slot + 2 ≤ next
+  pub fits : next + sizeOf g ≤ room
+  pub word : next + sizeOf g < 2147483648
+
+-- its records from a word on, and in the header where they start and how many words they have
+abbrev pub setAt : HintState → Glyph → ℕ → ℕ → List ℤ → List ℤ
+setAt st g slot next out =
+    placed (placed out next (recordsOf st g)) slot (pos next ∷ pos (length (recordsOf st g)) ∷ [])
+
 -- lengths of so many glyphs, none of them at fault, whose records and header fit
 pub record Fillable (ls words : List ℤ) (masks : List ℕ) (room : ℕ) : Type 0 where
   pub counted : miscounted ls (length words) (length masks) ≡ false

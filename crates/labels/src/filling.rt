@@ -4,22 +4,48 @@ use crate::measure::FIXED_HEADER;
 use run::run_given;
 use zones::HintState;
 ghost use mathlib.Core.Path.{_≡_};
-ghost use mathlib.Core.List.{map};
-ghost use Prim.Native.Nat.{_<_};
+ghost use mathlib.Core.List.{[], _∷_, map};
+ghost use Prim.Native.Nat.{_+_, _≤_, _<_};
 ghost use lib.IntN.{pos};
-ghost use lib.ListN.{length, set};
+ghost use lib.ListN.{length};
 ghost use Rattle.pen.specs.Records.{written};
-ghost use Rattle.labels.specs.Glyphs.{glyphsOf, recordsOf};
+ghost use Rattle.words.specs.Bytes.{placed};
+ghost use Rattle.labels.specs.Glyphs.{glyph, glyphsOf, recordsOf};
 ghost use Rattle.labels.specs.Labels.{labelWords};
-ghost use Rattle.labels.specs.Measured.{Fillable};
+ghost use Rattle.labels.specs.Measured.{Settable, setAt, Fillable};
 
-// A count or an offset as a word.
-fn put(out: &mut [i32], i: usize, count: usize)
-    requires { ⌜ (i < length (now out)) × (count < 2147483648) ⌝ }
-    ensures { λ _. ⌜ now (out .exit) ≡ set (now (out .entry)) i (pos count) ⌝ }
+// What the first word of a result says.
+const RESULT_VERSION: usize = 1;
+
+// Two counts or offsets as words.
+fn put_two(out: &mut [i32], i: usize, first: usize, second: usize)
+    requires { ⌜ (i + 2 ≤ length (now out)) × ((first < 2147483648) × (second < 2147483648)) ⌝ }
+    ensures { λ _. ⌜ now (out .exit) ≡ placed (now (out .entry)) i (pos first ∷ pos second ∷ []) ⌝ }
 {
-    let word = count as u32;
-    out[i] = word as i32;
+    let one = first as u32;
+    let other = second as u32;
+    out[i] = one as i32;
+    out[i + 1] = other as i32;
+}
+
+// A glyph's records from the next free word on, and their place in the header; how many words they
+// have.
+fn fill_glyph(
+    masks: &[u8],
+    words: &[i32],
+    state: HintState,
+    out: &mut [i32],
+    slot: usize,
+    next: usize,
+) -> usize
+    requires { ⌜ Settable (glyph (now words) (now masks)) slot next (length (now out)) ⌝ }
+    ensures { λ r. ⌜ (r ≡ length (recordsOf state (glyph (now (words .entry)) (now (masks .entry))))) ×
+        (now (out .exit) ≡ setAt state (glyph (now (words .entry)) (now (masks .entry))) slot next
+        (now (out .entry))) ⌝ }
+{
+    let ran = run_given(masks, words, state, &mut out[next..]);
+    put_two(out, slot, next, ran.words);
+    ran.words
 }
 
 // Glyphs that pass all tests, into an output that has room for them.
@@ -34,8 +60,7 @@ pub(crate) fn fill(
     ensures { λ _. ⌜ now (out .exit) ≡ written (labelWords (map (recordsOf state)
         (glyphsOf (now (lengths .entry)) (now (commands .entry)) (now (masks .entry))))) (now (out .entry)) ⌝ }
 {
-    put(out, 0, 1);
-    put(out, 1, lengths.len() / 2);
+    put_two(out, 0, RESULT_VERSION, lengths.len() / 2);
     let mut next = FIXED_HEADER + lengths.len();
     let mut at = 0;
     let mut word = 0;
@@ -43,15 +68,15 @@ pub(crate) fn fill(
     while at < lengths.len() {
         let words_end = word + size_at(lengths, at);
         let bytes_end = byte + size_at(lengths, at + 1);
-        let ran = run_given(
+        let words = fill_glyph(
             &masks[byte..bytes_end],
             &commands[word..words_end],
             state,
-            &mut out[next..],
+            out,
+            FIXED_HEADER + at,
+            next,
         );
-        put(out, FIXED_HEADER + at, next);
-        put(out, FIXED_HEADER + at + 1, ran.words);
-        next = next + ran.words;
+        next = next + words;
         at = at + 2;
         word = words_end;
         byte = bytes_end;

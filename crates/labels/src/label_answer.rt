@@ -3,6 +3,9 @@ use words::Answer;
 ghost use mathlib.Core.Path.{_≡_};
 ghost use Rattle.labels.specs.Answers.{labelNumber, labelGlyph, labelPlace, labelWritten, inGlyph};
 
+// The number of a fault that is a mask's.
+const BAD_MASK: u32 = 5;
+
 pub enum LabelAnswer {
     // OK, and the words of the result.
     Written(usize),
@@ -78,13 +81,8 @@ impl LabelAnswer {
 pub(crate) fn in_glyph(glyph: usize, fault: Answer) -> LabelAnswer
     ensures { λ r. ⌜ r ≡ inGlyph glyph fault ⌝ }
 {
-    match fault {
-        Answer::Ok => LabelAnswer::Written(0),
-        Answer::BadScript(_) => LabelAnswer::Written(0),
-        Answer::BadScale => LabelAnswer::Written(0),
-        Answer::BadBlues(_) => LabelAnswer::Written(0),
-        Answer::BadCommand(at) => LabelAnswer::BadCommand(glyph, at),
-        Answer::BadMask(at) => LabelAnswer::BadMask(glyph, at),
-        Answer::NoRoom(_) => LabelAnswer::Written(0),
+    if fault.code() == BAD_MASK {
+        return LabelAnswer::BadMask(glyph, fault.place());
     }
+    LabelAnswer::BadCommand(glyph, fault.place())
 }

@@ -92,6 +92,9 @@ add-words-end c =
     let t = c .before .before in
     omega (arith, t .before .before .good .0, t .loop .inv .walks .ofWords, c .size-at .ensures .1 .0)
 
+add-bytes-end : tie.Need-add-bytes-end Inv-loop μ-loop
+add-bytes-end c = omega (arith, begin c .good .1 .0, turn c .loop .inv .walks .ofBytes, c .size-at2 .ensures .1 .0)
+
 survey-requires : tie.Need-survey-requires Inv-loop μ-loop
 survey-requires c κs =
     let l = c .before .before in
@@ -104,6 +107,11 @@ survey-requires c κs =
       omega (arith, short l .0, length-take-le (w + n - w) (drop w cs) (omega (arith, inside l .0, length-drop w cs))),
       omega (arith, short l .1, length-take-le (b + m - b) (drop b ms) (omega (arith, inside l .1, length-drop b ms))),
     )
+
+add-glyph : tie.Need-add-glyph Inv-loop μ-loop
+add-glyph c =
+    let m = turn (lengths c) .loop .inv in
+    omega (arith, m .few .1, m .walks .few, there (lengths c))
 
 returns : tie.Need-returns Inv-loop μ-loop
 returns c =
@@ -173,7 +181,8 @@ returns-3 c =
 pub measure-spec : {M : Type 1} → statement M
 measure-spec =
     tie.close
-    (tie.spec Inv-loop μ-loop (λ c. ?) loop-holds (λ c κs. c .loop-test .taken) add-words-end (λ c. ?)
-    (λ c κs. ?) (λ c. ?) (λ c. ?) (λ c. ?) (λ c. ?) (λ c. inside c .0) (λ c. ?) (λ c. ?)
-    (λ c. inside (c .before) .1) survey-requires (λ c. ?) (λ c κs. search needs) (λ c κs. search needs) returns
-    with-requires (λ c. ?) (λ c. ?) loop-again returns-2 returns-3)
+    (tie.spec Inv-loop μ-loop (λ c. search needs) loop-holds (λ c κs. c .loop-test .taken) add-words-end
+    (λ c. search needs) (λ c κs. both-there (c .before .before .loop .inv .walks) (c .before .loop-test .taken))
+    add-bytes-end (λ c. search needs) (λ c. omega arith) (λ c. omega arith) (λ c. inside c .0) (λ c. omega arith)
+    (λ c. omega arith) (λ c. inside (c .before) .1) survey-requires add-glyph (λ c κs. search needs)
+    (λ c κs. search needs) returns with-requires (λ c. search needs) (λ c. omega arith) loop-again returns-2 returns-3)
