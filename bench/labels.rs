@@ -16,14 +16,17 @@ pub struct Labels {
     word: Word,
     scripts: Vec<Vec<u8>>,
     rooms: Vec<usize>,
+    room: usize,
 }
 
 impl Labels {
     pub fn of(letters: &[Script]) -> Labels {
+        let rooms: Vec<usize> = letters.iter().map(Script::most_words).collect();
         Labels {
             word: Word::of(letters),
             scripts: letters.iter().map(Script::bytes).collect(),
-            rooms: letters.iter().map(Script::most_words).collect(),
+            room: rooms.iter().sum(),
+            rooms,
         }
     }
 
@@ -71,7 +74,7 @@ fn of_label_run(out: &[i32]) -> Vec<&[i32]> {
 
 impl Case for Labels {
     fn room(&self) -> usize {
-        self.rooms.iter().sum()
+        self.room
     }
 
     fn run(&self, side: usize, out: &mut [i32]) -> bool {

@@ -4,6 +4,9 @@
 use std::hint::black_box;
 use std::time::Instant;
 
+/// What stands in words that are lent, and in no result.
+const LENT: i32 = -77;
+
 /// What is run on each side, such as a script.
 pub trait Case {
     /// How many words a side is lent.
@@ -12,14 +15,15 @@ pub trait Case {
     /// Whether a side, by its number, answers OK.
     fn run(&self, side: usize, out: &mut [i32]) -> bool;
 
-    /// What a side leaves in words that are all the same, if it answers OK.
+    /// What a side leaves in the words that it is lent, if it answers OK.
     fn left(&self, side: usize) -> Option<Vec<i32>> {
-        let mut out = vec![-77; self.room()];
+        let mut out = vec![LENT; self.room()];
         self.run(side, &mut out).then_some(out)
     }
 }
 
-/// Cases of one kind, and how many of them are run between two looks at the clock.
+/// Cases of one kind, what each is called, how many of them are run between two looks at the clock, how many rounds
+/// there are, and the way of taking turns.
 pub struct Timing<'a, C> {
     pub each: &'a str,
     pub cases: &'a [C],
