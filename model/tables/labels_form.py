@@ -19,8 +19,8 @@ from .form import agree, packed
 from .scripts_good import command, padded_bytes, script_of
 from .writer_form import over
 
-# What the program that runs the cases can hold.
-HELD_PARAMS, HELD_WORDS, HELD_LENGTHS, HELD_OUT, HELD_BYTES = 72, 1000, 136, 800, 64
+# What the program that runs the cases can hold: words that are given, words of the output, mask bytes.
+HELD_WORDS, HELD_OUT, HELD_BYTES = 1200, 800, 64
 # As many words as most runs need that are refused for another reason.
 AMPLE = 20
 
@@ -94,12 +94,12 @@ def answered(run, room):
 def row(case, number):
     """A case as it is stored, in the row of that number."""
     run, room, said = case
-    counts = [len(run.params), len(run.commands), len(run.lengths), room, len(run.masks)]
-    held = [HELD_PARAMS, HELD_WORDS, HELD_LENGTHS, HELD_OUT, HELD_BYTES]
-    assert all(count <= most for count, most in zip(counts, held))
+    given = [*run.params, *run.commands, *run.lengths]
+    assert len(given) <= HELD_WORDS and room <= HELD_OUT and len(run.masks) <= HELD_BYTES
     answer = answered(run, room)
     agree(said, answer[: len(said)], case)
     *answer, words = answer
     lent = showing(words, room, number)
-    parts = [*run.params, *run.commands, *run.lengths, *lent, *over(lent, words)]
-    return packed([*counts, *answer, run.scale, *parts]) + padded_bytes(run.masks)
+    counts = [len(run.params), len(run.commands), len(run.lengths), room, len(run.masks)]
+    head = [*counts, *answer, run.scale]
+    return packed([*head, *given, *lent, *over(lent, words)]) + padded_bytes(run.masks)
