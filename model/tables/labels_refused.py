@@ -31,6 +31,13 @@ def with_lengths(run, *lengths):
     return run._replace(lengths=list(lengths))
 
 
+def with_length(run, at, more):
+    """One of the lengths is so much more."""
+    lengths = [*run.lengths]
+    lengths[at] += more
+    return with_lengths(run, *lengths)
+
+
 # The list of lengths.
 
 
@@ -62,9 +69,7 @@ def sums():
     run = run_of(ONE, MIXED, ENDED, MIXED)
     for at in [0, 2, 4, 1, 3, 5]:
         for more in [-1, 1]:
-            lengths = [*run.lengths]
-            lengths[at] += more
-            yield refused(with_lengths(run, *lengths), RUN_COUNT)
+            yield refused(with_length(run, at, more), RUN_COUNT)
     # Right in words and bytes together, and not in each.
     yield refused(with_lengths(run, 11, 2, 1, 0, 10, 3), RUN_COUNT)
     yield refused(with_lengths(run, 3, 10, 0, 1, 3, 10), RUN_COUNT)
@@ -226,11 +231,15 @@ def own_bytes():
     for glyphs in [(first, second), (second, first), (first, none, second), (both, second, first, none)]:
         yield fine(run_of(ONE, *glyphs), 2 + 9 * len(glyphs))
     # Masks that start behind bytes which another mask has, and twelve and thirteen bytes.
-    long = glyph(*stems, (HINT_MASK, 1, 12), (MOVE, 0, 40.25), (HINT_MASK, 0, 13), (LINE, 0, 10.25), (FINISH,),
-                 masks=[0x80, 0x40, *[0] * 11])
+    long = glyph(
+        *stems, (HINT_MASK, 1, 12), (MOVE, 0, 40.25), (HINT_MASK, 0, 13), (LINE, 0, 10.25), (FINISH,),
+        masks=[0x80, 0x40, *[0] * 11],
+    )
     yield fine(run_of(ONE, first, long, second), 8 + 7 + 8 + 7)
-    later = glyph(*stems, (HINT_MASK, 2, 1), (MOVE, 0, 10.25), (COUNTER_MASK, 1, 1), (HINT_MASK, 0, 3), (MOVE, 0, 40.25),
-                  masks=[0x00, 0xC0, 0x40])
+    later = glyph(
+        *stems, (HINT_MASK, 2, 1), (MOVE, 0, 10.25), (COUNTER_MASK, 1, 1), (HINT_MASK, 0, 3), (MOVE, 0, 40.25),
+        masks=[0x00, 0xC0, 0x40],
+    )
     yield fine(run_of(ONE, later, none, later, second), 10 + 4 * 7)
 
 
@@ -245,7 +254,7 @@ FIVE_SIZE = 17
 
 
 def length(at, more):
-    return lambda run, room: (with_lengths(run, *run.lengths[:at], run.lengths[at] + more, *run.lengths[at + 1 :]), room)
+    return lambda run, room: (with_length(run, at, more), room)
 
 
 def one_length_more(run, room):
