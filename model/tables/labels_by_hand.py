@@ -20,7 +20,7 @@ HALF_SCALE = ONE // 2
 WHOLE = glyph_in(WHOLE_SCRIPT)
 EMPTY = glyph()
 ENDED = glyph((FINISH,))
-# Nothing of these is written: a stem, every command without records, a line that waits, one behind a finish.
+# Glyphs without records: a stem, every call that has none, and a line that waits.
 STEMS = glyph((STEM, 10.25, 20.25))
 HINTED = glyph((STEM, 10.25, 20.25), (HINT_MASK, 0, 1), (COUNTER_MASK, 0, 1), (CLEAR,), (CLOSE,), masks=[0x80])
 WAITING = glyph((LINE, 3, 4))
@@ -110,7 +110,7 @@ def by_hand():
         yield from cases()
 
 
-# What a glyph could leave for the next one: its records, and what the next one would have then.
+# A point on the stem's bottom, and the record of a move there, with the stem and without it.
 GRID = glyph((STEM, 10.25, 20.25), (MOVE, 0, 10.25))
 ON_GRID, OFF_GRID = [1, 0, 10 * ONE], [1, 0, 10 * ONE + ONE // 4]
 
@@ -120,20 +120,20 @@ def passing():
     # Stems, a valid map and a start: the second would be on the grid, and close the first's path.
     yield GRID, ON_GRID, glyph((MOVE, 0, 10.25)), OFF_GRID
     yield STEMS, [], glyph((MOVE, 0, 10.25)), OFF_GRID
-    # A valid map, while which a stem is ignored.
+    # A valid map: the second's stem would be ignored.
     yield glyph((MOVE, 0, 10.25)), OFF_GRID, GRID, ON_GRID
     yield WAITING, [], GRID, ON_GRID
     # A mask of no stems, and one of the second stem.
     yield glyph((STEM, 10.25, 20.25), (HINT_MASK, 0, 0), (MOVE, 0, 10.25)), OFF_GRID, GRID, ON_GRID
     yield glyph((HINT_MASK, 0, 1), masks=[0x40]), [], GRID, ON_GRID
     # Stems that are used, by a map and by a counter mask: the second would stand at 10.0.
-    lower = glyph((STEM, 30.25, 50.25), (MOVE, 0, 30.25))
-    yield GRID, ON_GRID, lower, [1, 0, 30 * ONE]
-    yield glyph((STEM, 10.25, 20.25), (COUNTER_MASK, 0, 1), masks=[0x80]), [], lower, [1, 0, 30 * ONE]
+    higher = glyph((STEM, 30.25, 50.25), (MOVE, 0, 30.25))
+    yield GRID, ON_GRID, higher, [1, 0, 30 * ONE]
+    yield glyph((STEM, 10.25, 20.25), (COUNTER_MASK, 0, 1), masks=[0x80]), [], higher, [1, 0, 30 * ONE]
     # An initial map: a zone moves the first's stem a quarter up, and the second would go that way before it is rounded.
     held = glyph((STEM, -0.25, 40), (MOVE, 0, -0.25))
     yield held, [1, 0, 0], glyph((STEM, 100.375, 120.375), (MOVE, 0, 100.375)), [1, 0, 100 * ONE]
-    # As many stems as there may be: another is ignored.
+    # As many stems as there may be: the second's would be ignored.
     yield glyph(*[(STEM, 2 * at, 2 * at + 1) for at in range(MAX_HINTS)]), [], GRID, ON_GRID
     # A start, which a finish or a move closes.
     start = glyph((MOVE, 1, 2))
