@@ -1,18 +1,8 @@
--- `judged` gives the verdict on what `run_labels` says and leaves. Assumes nothing.
-use mathlib.Core.Path.{_≡_}
-use mathlib.Core.List.{List}
-use lib.IntN.{ℤ}
+-- `judged` gives the verdict on what `run_labels` says and leaves, which is its whole result. Assumes
+-- nothing.
 use borrow.Author.Needs.{needs}
-use Rattle.labels.specs.declared.label_answer.LabelAnswer.{LabelAnswer}
-use Rattle.labels.specs.Labels.{LabelResult, Labelled}
-use Rattle.test_labels.specs.Judging.{labelled}
 use Rattle.test_labels.proofs.judging.judged.Statement.{statement}
 use Rattle.test_labels.proofs.judging.judged.Tie as tie
-
--- what it says and leaves is its whole result
-labelled-is : {o : LabelResult} {answer : LabelAnswer} {left : List ℤ} → Labelled o answer left →
-    labelled answer left ≡ o
-labelled-is l = rw (l .answer, l .memory)
 
 number-requires : tie.Need-number-requires
 number-requires c κs = search needs
@@ -34,7 +24,7 @@ returns c =
     let l = c .before .before .before in
     let p = l .before .before in
     let o = rw (p .before .number .ensures, p .params-from .ensures) at (l .run-labels .ensures) in
-    rw (labelled-is o) at (c .compared .ensures)
+    rw (o .answer, o .memory) at (c .compared .ensures)
 
 pub judged-spec : {M : Type 1} → statement M
 judged-spec =
