@@ -1,10 +1,10 @@
-/* Spoonglacier: hints the glyph that a script draws, and gives back its path as records; writes
-   scripts; and lists the edges by which a glyph is hinted.
+/* Spoonglacier: hints the glyph that a script draws, and gives back its path as records; hints the
+   glyphs of a label at once; writes scripts; and lists the edges by which a glyph is hinted.
 
    Link target/staticlib/libspoonglacier.a, which `rt staticlib spoonglacier` makes: x86-64 code for
    Linux. docs/SCRIPT.md explains every word of a script and of a result, and how to link from C and
    from Rust; examples/first.c is a whole program, examples/write.c writes a script and runs it,
-   and examples/edges.c lists a script's edges. */
+   examples/edges.c lists a script's edges, and examples/labels.c hints a word of five letters. */
 #ifndef SPOONGLACIER_H
 #define SPOONGLACIER_H
 
@@ -21,12 +21,12 @@ extern "C" {
    then that add names; the third, all other releases since then. From 1 on a bottom zone looks at
    the first family blue too (rules Z8 and Z10). */
 #define SPOONGLACIER_VERSION_MAJOR 1
-#define SPOONGLACIER_VERSION_MINOR 0
+#define SPOONGLACIER_VERSION_MINOR 1
 #define SPOONGLACIER_VERSION_PATCH 0
-#define SPOONGLACIER_VERSION "1.0.0"
+#define SPOONGLACIER_VERSION "1.1.0"
 
 /* What the functions answer. Places are those of spoonglacier_run and spoonglacier_edges;
-   spoonglacier_write has its own below. */
+   spoonglacier_write and spoonglacier_labels have their own below. */
 enum {
     SPOONGLACIER_OK = 0,          /* the result is in the output; place 0 */
     SPOONGLACIER_BAD_SCRIPT = 1,  /* length, header, padding or pairs; place: the word at fault, 0
@@ -39,7 +39,9 @@ enum {
                                      the value of word 4 if the output has under 4 words */
     SPOONGLACIER_SCRIPT_ROOM = 7, /* spoonglacier_write: the script is longer than the buffer, or
                                      than a script may be; place 0 */
-    SPOONGLACIER_LIST_ROOM = 8    /* spoonglacier_edges: the list has too few records; place 0 */
+    SPOONGLACIER_LIST_ROOM = 8,   /* spoonglacier_edges: the list has too few records; place 0 */
+    SPOONGLACIER_RUN_COUNT = 9    /* spoonglacier_labels: lengths that are not those of 0 to 64
+                                     glyphs which fill both lists; place 0 */
 };
 
 /* Commands of a script: the kind word, and the operand words behind it. Points are x and y. */
@@ -212,6 +214,53 @@ enum {
 uint32_t spoonglacier_edges(const uint8_t *script, size_t script_bytes, size_t commands,
                             int32_t *list, size_t list_words, size_t *edges, size_t *pairs,
                             size_t *ghosts, size_t *locked, size_t *place);
+
+/* A label run: the most glyphs, the lengths that each has, and the words of a result before the
+   records of so many glyphs. */
+#define SPOONGLACIER_MOST_GLYPHS 64
+#define SPOONGLACIER_GLYPH_LENGTHS 2
+#define SPOONGLACIER_LABEL_HEADER_WORDS(glyphs) (2 + 2 * (glyphs))
+
+/* Output words that always suffice for so many glyphs with so many commands in all. */
+#define SPOONGLACIER_LABEL_ROOM(glyphs, commands) \
+    (SPOONGLACIER_LABEL_HEADER_WORDS(glyphs) + SPOONGLACIER_MOST_COMMAND_WORDS * (commands))
+
+/* Hints up to 64 glyphs under one scale and one set of parameters, and answers one of the numbers
+   above, never BAD_SCRIPT, SCRIPT_ROOM or LIST_ROOM. Each glyph starts as a new drawing, and its
+   records are those of its own script run alone with room enough, which is proved.
+
+   scale     the scale in 16.16. Below 1 it is BAD_SCALE.
+   params    as for spoonglacier_write. A count outside 0 to 7 is BAD_BLUES.
+   commands  `command_words` words: those of the glyphs, one glyph behind the other, as in a script.
+             A mask is its kind, its start and its length; the start counts from the glyph's own
+             first mask byte. A command whose operands are not all among the glyph's own words is
+             BAD_COMMAND, and a mask that does not end within its own bytes BAD_MASK.
+   masks     `mask_bytes` bytes: those of the glyphs, one glyph behind the other, with nothing
+             between them. A glyph may leave bytes unused and use others twice.
+   lengths   `length_words` words, two for each glyph: how many command words it has, and how many
+             mask bytes. RUN_COUNT if they are odd in number or over 128, if one is negative, or if
+             those of words, or of bytes, do not sum up to what is given.
+   out       `out_words` words that nobody else reads or writes during the call and that overlap
+             nothing that is given. On OK it holds the result: 1, the number of glyphs; for each
+             glyph where its records start, counted in words from `out` on, and how many words they
+             have; then the records. The words behind them are as they were. On every refusal no
+             word is changed. Words past 2147483647 are not looked at.
+   written   where the number of words of the result is left; 0 if refused.
+   glyph     where the glyph at fault is left, which counts from 1: of BAD_COMMAND and BAD_MASK the
+             first that has one, of NO_ROOM the first whose records do not fit, or 0 if the words
+             before the records do not; of all others 0.
+   place     where the place is left: of BAD_COMMAND and BAD_MASK the kind word of the first such
+             command, counted from 0 among its glyph's own words; of all others 0.
+
+   Refusals come in this order: RUN_COUNT, the scale, the counts, the commands of all glyphs first
+   to last, NO_ROOM. No glyphs are a label too. The three pointers may not be null or lie in a
+   buffer, and point to three places. Lengths, alignment, stack, threads and state are as for
+   spoonglacier_run. */
+uint32_t spoonglacier_labels(int32_t scale, const int32_t *params, size_t params_words,
+                             const int32_t *commands, size_t command_words, const uint8_t *masks,
+                             size_t mask_bytes, const int32_t *lengths, size_t length_words,
+                             int32_t *out, size_t out_words, size_t *written, size_t *glyph,
+                             size_t *place);
 
 #ifdef __cplusplus
 }

@@ -4,7 +4,7 @@ use crate::reading::Marking;
 use crate::reading::read_command;
 use words::Answer;
 ghost use mathlib.Core.Path.{_≡_};
-ghost use Prim.Native.Nat.{_+_, _*_, _≤_};
+ghost use Prim.Native.Nat.{_+_, _*_, _≤_, _<_};
 ghost use lib.ListN.{length, drop};
 ghost use Rattle.words.specs.Words.{rawAt};
 ghost use Rattle.words.specs.Answers.{Says, firstOf};
@@ -13,14 +13,14 @@ ghost use Rattle.commands.specs.Faults.{maskPast, maskAnswer, faultRows,
 
 // Whether a mask's end is past the mask bytes: what is negative is, as a natural, past them.
 fn mask_past(start: u32, len: u32, bytes: usize) -> bool
-    requires { ⌜ bytes ≤ 65536 ⌝ }
+    requires { ⌜ bytes < 2147483648 ⌝ }
     ensures { λ r. ⌜ r ≡ maskPast start len bytes ⌝ }
 {
     bytes < (start as usize) + (len as usize)
 }
 
 fn mask_fault(start: u32, len: u32, bytes: usize, place: usize) -> Answer
-    requires { ⌜ bytes ≤ 65536 ⌝ }
+    requires { ⌜ bytes < 2147483648 ⌝ }
     ensures { λ r. ⌜ r ≡ maskAnswer start len bytes place ⌝ }
 {
     if mask_past(start, len, bytes) {
@@ -29,9 +29,9 @@ fn mask_fault(start: u32, len: u32, bytes: usize, place: usize) -> Answer
     Answer::Ok
 }
 
-// What is wrong with a command at a place, where the script has so many mask bytes.
-fn fault_in(command: Command, bytes: usize, place: usize) -> Answer
-    requires { ⌜ bytes ≤ 65536 ⌝ }
+// What is wrong with a command at a place, where there are so many mask bytes.
+pub fn fault_in(command: Command, bytes: usize, place: usize) -> Answer
+    requires { ⌜ bytes < 2147483648 ⌝ }
     ensures { λ r. ⌜ r ≡ firstOf (faultRows bytes place command) ⌝ }
 {
     let Command::Mark(marking) = command else {

@@ -59,7 +59,7 @@ fn point(part: &[u8], at: usize) -> Point
 
 // The command of a kind at word `at` of the part, all of whose operands are there.
 fn command_of(part: &[u8], at: usize, kind: usize) -> Command
-    requires { ⌜ (4 * (at + 1 + operandsOf kind) ≤ length (now part)) × (at < 16384) ⌝ }
+    requires { ⌜ 4 * (at + 1 + operandsOf kind) ≤ length (now part) ⌝ }
     ensures { λ r. ⌜ r ≡ commandOf (rawAt (now (part .entry))) at kind ⌝ }
 {
     let first = at + 1;
@@ -97,7 +97,7 @@ fn command_of(part: &[u8], at: usize, kind: usize) -> Command
 
 // The command at word `at` of the part, whose first `n` words are the command words.
 pub fn read_command(part: &[u8], n: usize, at: usize) -> Read
-    requires { ⌜ (4 * n ≤ length (now part)) × ((n ≤ 16384) × (at < n)) ⌝ }
+    requires { ⌜ (4 * n ≤ length (now part)) × (at < n) ⌝ }
     ensures { λ r. ⌜ r ≡ readAt (rawAt (now (part .entry))) n at ⌝ }
 {
     let kind = natural(part, at);

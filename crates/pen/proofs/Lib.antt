@@ -1,4 +1,5 @@
 pub mod Lent
 pub mod Words
+pub mod Counts
 pub mod Drew
 pub mod Unique

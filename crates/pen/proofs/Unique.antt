@@ -6,8 +6,13 @@ use borrow.Fn.World.{ArgsD, ResD}
 use contract.Lifetimes.{Lfts}
 use denote.Triple.Clauses.{AtExit}
 use denote.Ref.{now}
+use Rattle.pen.specs.declared.strokes.Path.{Path}
 use Rattle.pen.specs.declared.strokes.Pen.{Pen}
+use Rattle.pen.specs.declared.counting.Trail.{Trail}
+use Rattle.pen.specs.declared.counting.Counted.{Counted}
 use Rattle.pen.proofs.Drew.{drew-one}
+use Rattle.pen.proofs.counting.Trail.new.Reads as new-trail-reads
+use Rattle.pen.proofs.counting.Trail.count.Reads as count-reads
 use Rattle.pen.proofs.strokes.Pen.new.Reads as new-reads
 use Rattle.pen.proofs.strokes.Pen.move_to as move-to
 use Rattle.pen.proofs.strokes.Pen.move_to.Kinds as move-to-kinds
@@ -24,6 +29,15 @@ use Rattle.pen.proofs.strokes.Pen.finish.Reads as finish-reads
 
 pub new-unique : (κs : Lfts 0) (r r′ : Pen) → new-reads.Post κs tt r tt → new-reads.Post κs tt r′ tt → r ≡ r′
 new-unique κs r r′ p q = p ∙ sym q
+
+pub new-trail-unique : (κs : Lfts 0) (r r′ : Trail) → new-trail-reads.Post κs tt r tt →
+    new-trail-reads.Post κs tt r′ tt → r ≡ r′
+new-trail-unique κs r r′ p q = p ∙ sym q
+
+module _ (κs : Lfts 0) (t : Trail) (path : Path) (r r′ : Counted) where
+  pub count-unique : count-reads.Post κs (t, (path, tt)) r (t, (path, tt)) →
+      count-reads.Post κs (t, (path, tt)) r′ (t, (path, tt)) → r ≡ r′
+  count-unique p q = p .0 ∙ sym (q .0)
 
 module _ (κs : Lfts 1) (a : ArgsD move-to.signature κs) (r r′ : ResD move-to.signature κs)
     (x x′ : AtExit (endedOf 1 move-to-kinds.ps move-to-kinds.r) κs) where

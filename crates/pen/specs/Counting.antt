@@ -2,17 +2,27 @@
 -- map. A line waits, and closing drops it where its character point is the start.
 use mathlib.Core.Bool.{cond}
 use Prim.Native.Nat.{ℕ, _+_}
-use Rattle.pen.specs.declared.strokes.Point.{Point}
 use Rattle.pen.specs.declared.strokes.Path.{Path}
 use Rattle.pen.specs.declared.strokes.Path.the-variants.{Move, Line, Curve, Finish}
 use Rattle.pen.specs.declared.strokes.Start.{Start}
 use Rattle.pen.specs.declared.strokes.Start.the-variants.{At, Absent}
+use Rattle.pen.specs.declared.strokes.Waiting.{Waiting}
+use Rattle.pen.specs.declared.strokes.Waiting.the-variants.{Line as WaitingLine, Absent as NoLine}
+use Rattle.pen.specs.declared.strokes.Pen.{Pen}
 use Rattle.pen.specs.declared.counting.Trail.{Trail}
 use Rattle.pen.specs.declared.counting.Counted.{Counted}
 use Rattle.pen.specs.Strokes.{samePoint}
 
 abbrev pub newTrail : Trail
 newTrail = record { start = Absent; waiting = Absent }
+
+-- the character point of a line that waits, and so the trail of a pen
+abbrev pub waitingAt : Waiting → Start
+waitingAt NoLine = Absent
+waitingAt (WaitingLine at device) = At at
+
+abbrev pub trailOf : Pen → Trail
+trailOf pen = record { start = pen .start; waiting = waitingAt (pen .waiting) }
 
 -- the words of the line that waits
 abbrev pub flushCount : Start → ℕ

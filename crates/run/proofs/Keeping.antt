@@ -17,7 +17,6 @@ use Rattle.pen.proofs.Drew.{DrewWords, DrewNothing}
 use Rattle.hints.specs.declared.hints.Hints.{Hints}
 use Rattle.hints.specs.Path.{hasPoint, strokeBy}
 use Rattle.words.specs.declared.answer.Answer.the-variants.{NoRoom}
-use Rattle.words.specs.Words.{rawAt}
 use Rattle.commands.specs.declared.reading.Marking.{Marking}
 use Rattle.commands.specs.declared.reading.Command.the-variants.{Mark, Draw}
 use Rattle.commands.specs.Commands.{readAt, nextAt}
@@ -27,11 +26,11 @@ use Rattle.run.specs.Kept.{noSizes, Kept, Mappable, Marked, Readied}
 use Rattle.run.proofs.Clearing.{cleared-kept}
 use Rattle.run.proofs.Turns.{Going, going, Gives, close-idle, turn-mark, turn-ready, turn-drew, turn-refused}
 
-module _ (st : HintState) (s part : List ℕ) (first n from : ℕ) (out₀ : List ℤ) where
+module _ (st : HintState) (s : List ℕ) (w : ℕ → ℕ) (first n from : ℕ) (out₀ : List ℤ) where
   pub record Running (bs : List ℕ) (ns is ms : List ℤ) (ts : List ℕ) (z : Sizes) (pen : Pen) (next at : ℕ)
       (out : List ℤ) : Type 0 where
     pub hints : Hints
-    pub goes : Going st s part first n from out₀ hints pen next at out
+    pub goes : Going st s w first n from out₀ hints pen next at out
     pub kept : Kept st hints z bs ns is ms
     pub whole : Whole is ts
     pub long : length ns ≡ 480
@@ -39,14 +38,14 @@ module _ (st : HintState) (s part : List ℕ) (first n from : ℕ) (out₀ : Lis
     pub twelve : length bs ≡ 12
 
   -- before the first command
-  pub starts : (is ms : List ℤ) (ts : List ℕ) → Runnable s part first n from → Whole is ts → length ms ≡ 288 →
+  pub starts : (is ms : List ℤ) (ts : List ℕ) → Runnable s w first n from → Whole is ts → length ms ≡ 288 →
       Running (replicate 12 255) (replicate 480 (pos 0)) is ms ts noSizes newPen 0 0 out₀
-  starts is ms ts r w c =
+  starts is ms ts r l c =
       record {
         hints = _;
-        goes = going st s part first n from r out₀;
+        goes = going st s w first n from r out₀;
         kept = cleared-kept st is ms (record { all = refl; none = refl });
-        whole = w;
+        whole = l;
         long = refl;
         current = c;
         twelve = refl;
@@ -65,17 +64,17 @@ module _ (st : HintState) (s part : List ℕ) (first n from : ℕ) (out₀ : Lis
 
     -- whether the map is built is what its size says
     no-map : (path : Path) → wantsMap (z .valid) path ≡ false → wantsMap (g .hints .map .«is_valid») path ≡ false
-    no-map path w = rw (g .kept .map .valid) w
+    no-map path u = rw (g .kept .map .valid) u
 
     module _ (i : at < n) where
       -- a close changes nothing
-      pub closes : {m : Marking} → readAt (rawAt part) n at .command ≡ Mark m → isClose m ≡ true →
-          Running bs ns is ms ts z pen next (nextAt (rawAt part) at) out
+      pub closes : {m : Marking} → readAt w n at .command ≡ Mark m → isClose m ≡ true →
+          Running bs ns is ms ts z pen next (nextAt w at) out
       closes {m} e c =
           record {
             hints = g .hints;
             goes =
-                subst (λ (h : Hints). Going st s part first n from out₀ h pen next (nextAt (rawAt part) at) out)
+                subst (λ (h : Hints). Going st s w first n from out₀ h pen next (nextAt w at) out)
                 (close-idle st (g .hints) s from m c) (turn-mark (g .goes) i e);
             kept = g .kept;
             whole = g .whole;
@@ -86,8 +85,8 @@ module _ (st : HintState) (s part : List ℕ) (first n from : ℕ) (out₀ : Lis
 
       -- a command that writes nothing
       pub marks : {m : Marking} (z′ : Sizes) (bs′ : List ℕ) (ns′ is′ : List ℤ) (ts′ : List ℕ) →
-          readAt (rawAt part) n at .command ≡ Mark m → Marked st s from m z bs ns is z′ bs′ ns′ is′ ts′ →
-          Running bs′ ns′ is′ ms ts′ z′ pen next (nextAt (rawAt part) at) out
+          readAt w n at .command ≡ Mark m → Marked st s from m z bs ns is z′ bs′ ns′ is′ ts′ →
+          Running bs′ ns′ is′ ms ts′ z′ pen next (nextAt w at) out
       marks z′ bs′ ns′ is′ ts′ e m =
           record {
             hints = _;
@@ -101,7 +100,7 @@ module _ (st : HintState) (s part : List ℕ) (first n from : ℕ) (out₀ : Lis
 
       -- a call that wants a map
       pub readies : {path : Path} (z′ : Sizes) (ms′ is′ : List ℤ) (ts′ : List ℕ) (ns′ : List ℤ) →
-          readAt (rawAt part) n at .command ≡ Draw path → hasPoint path ≡ true → z .valid ≡ false →
+          readAt w n at .command ≡ Draw path → hasPoint path ≡ true → z .valid ≡ false →
           Readied st z is bs ns z′ ms′ is′ ts′ ns′ → Running bs ns′ is′ ms′ ts′ z′ pen next at out
       readies z′ ms′ is′ ts′ ns′ e p v m =
           record {
@@ -115,14 +114,14 @@ module _ (st : HintState) (s part : List ℕ) (first n from : ℕ) (out₀ : Lis
           }
 
       -- a call that wrote its words
-      pub draws : {path : Path} (said : Drawn) (k : ℕ) (exit : List ℤ) → readAt (rawAt part) n at .command ≡ Draw path →
+      pub draws : {path : Path} (said : Drawn) (k : ℕ) (exit : List ℤ) → readAt w n at .command ≡ Draw path →
           wantsMap (z .valid) path ≡ false →
           DrewWords (strokeBy (g .hints .map) (st .scale) pen path) (drop next out) said k exit →
-          Running bs ns is ms ts z (said .pen) (next + k) (nextAt (rawAt part) at) (take next out ++ exit)
-      draws {path} said k exit e w d =
+          Running bs ns is ms ts z (said .pen) (next + k) (nextAt w at) (take next out ++ exit)
+      draws {path} said k exit e u d =
           record {
             hints = g .hints;
-            goes = turn-drew (g .goes) i e (no-map path w) d;
+            goes = turn-drew (g .goes) i e (no-map path u) d;
             kept = g .kept;
             whole = g .whole;
             long = g .long;
@@ -131,11 +130,11 @@ module _ (st : HintState) (s part : List ℕ) (first n from : ℕ) (out₀ : Lis
           }
 
       -- a call that did not, and leaves every word
-      pub refuses : {path : Path} (said : Drawn) (exit : List ℤ) → readAt (rawAt part) n at .command ≡ Draw path →
+      pub refuses : {path : Path} (said : Drawn) (exit : List ℤ) → readAt w n at .command ≡ Draw path →
           wantsMap (z .valid) path ≡ false →
           DrewNothing (strokeBy (g .hints .map) (st .scale) pen path) pen (drop next out) said exit →
-          Gives st s part first n from out₀ (NoRoom (first + at)) next (take next out ++ exit)
-      refuses {path} said exit e w d =
-          subst (Gives st s part first n from out₀ (NoRoom (first + at)) next)
+          Gives st s w first n from out₀ (NoRoom (first + at)) next (take next out ++ exit)
+      refuses {path} said exit e u d =
+          subst (Gives st s w first n from out₀ (NoRoom (first + at)) next)
           (sym (ap (λ (x : List ℤ). take next out ++ x) (d .left) ∙ take-append-drop next out))
-          (turn-refused (g .goes) i e (no-map path w) d)
+          (turn-refused (g .goes) i e (no-map path u) d)

@@ -7,5 +7,6 @@ pub mod Building
 pub mod Keeping
 pub mod Looking
 pub mod Rooms
+pub mod Counting
 pub mod Bounds
 pub mod Unique

@@ -7,8 +7,8 @@ use commands::read_command;
 use hints::Hints;
 use zones::HintState;
 ghost use mathlib.Core.Path.{_≡_};
-ghost use Prim.Native.Nat.{_*_};
-ghost use lib.ListN.{take, drop};
+ghost use Prim.Native.Nat.{_*_, _≤_};
+ghost use lib.ListN.{length, take, drop};
 ghost use Rattle.hints.specs.Calls.{newDrawing};
 ghost use Rattle.words.specs.Words.{rawAt};
 ghost use Rattle.commands.specs.Commands.{commandsOf};
@@ -26,7 +26,8 @@ pub fn hints_after(
     state: HintState,
     commands: usize,
 ) -> Hints
-    requires { ⌜ Runnable (now script) (drop (4 * first) (now script)) first n from ⌝ }
+    requires { ⌜ (4 * n ≤ length (drop (4 * first) (now script))) ×
+        Runnable (now script) (rawAt (drop (4 * first) (now script))) first n from ⌝ }
     ensures { λ r. ⌜ r ≡ drawingAfter state (newDrawing (state .scale)) (take commands
         (callsOf (now (script .entry)) from (commandsOf first (rawAt (drop (4 * first) (now (script .entry)))) n)))
         .hints ⌝ }

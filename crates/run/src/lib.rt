@@ -8,3 +8,4 @@ pub use hinting::hints_after;
 pub use kept::Sizes;
 pub use running::Ran;
 pub use running::run;
+pub use running::run_given;

@@ -3,7 +3,9 @@ use crate::kept::Sizes;
 use crate::marks::marked;
 use commands::Command;
 use commands::Marking;
+use commands::Read;
 use commands::read_command;
+use commands::read_given;
 use hints::draw_by_lines;
 use pen::CallAnswer;
 use pen::Path;
@@ -17,9 +19,11 @@ use words::Answer;
 use zones::HintState;
 use zones::ZONE_NUMBERS;
 ghost use mathlib.Core.Path.{_≡_};
-ghost use Rattle.words.specs.Words.{rawAt};
-ghost use Rattle.commands.specs.Commands.{commandsOf};
-ghost use Rattle.run.specs.Run.{callsOf, wantsMap, isClose, ranOf, Ended, Runnable};
+ghost use Prim.Native.Nat.{_*_, _≤_, _<_};
+ghost use lib.ListN.{length};
+ghost use Rattle.words.specs.Words.{rawAt, givenWord};
+ghost use Rattle.commands.specs.Commands.{readAt, commandsOf};
+ghost use Rattle.run.specs.Run.{callsOf, wantsMap, isClose, ranOf, Ended, Runnable, wordBy, ThereBy};
 
 // How a run ended: the answer, and the record words that were written.
 pub struct Ran {
@@ -56,20 +60,34 @@ fn is_close(marking: Marking) -> bool
     }
 }
 
-// Runs the `n` command words of a part that starts at word `first` of the script, whose mask bytes
-// start at byte `from`.
-pub fn run(
+// The command at word `at` of `n`, which a part of a script or a list of words gives.
+fn read_by(part: &[u8], words: &[i32], as_words: bool, n: usize, at: usize) -> Read
+    requires { ⌜ ThereBy as_words (now part) (now words) n × (at < n) ⌝ }
+    ensures { λ r. ⌜ r ≡ readAt (wordBy as_words (now (part .entry)) (now (words .entry))) n at ⌝ }
+{
+    if as_words {
+        return read_given(words, at);
+    }
+    read_command(part, n, at)
+}
+
+// Runs `n` command words, the first of which is called word `first`. Their masks are bytes of the
+// script, from byte `from` on.
+fn run_by(
     script: &[u8],
     part: &[u8],
+    words: &[i32],
+    as_words: bool,
     first: usize,
     n: usize,
     from: usize,
     state: HintState,
     out: &mut [i32],
 ) -> Ran
-    requires { ⌜ Runnable (now script) (now part) first n from ⌝ }
-    ensures { λ r. ⌜ Ended (ranOf state
-        (callsOf (now (script .entry)) from (commandsOf first (rawAt (now (part .entry))) n)) (now (out .entry))) r
+    requires { ⌜ ThereBy as_words (now part) (now words) n ×
+        Runnable (now script) (wordBy as_words (now part) (now words)) first n from ⌝ }
+    ensures { λ r. ⌜ Ended (ranOf state (callsOf (now (script .entry)) from
+        (commandsOf first (wordBy as_words (now (part .entry)) (now (words .entry))) n)) (now (out .entry))) r
         (now (out .exit)) ⌝ }
 {
     let mut zones = [0i32; ZONE_NUMBERS];
@@ -85,7 +103,7 @@ pub fn run(
     let mut next = 0;
     let mut at = 0;
     while at < n {
-        let read = read_command(part, n, at);
+        let read = read_by(part, words, as_words, n, at);
         let command = read.command;
         match command {
             Command::Mark(marking) => {
@@ -150,4 +168,33 @@ pub fn run(
         answer: Answer::Ok,
         words: next,
     }
+}
+
+// Runs the `n` command words of a part that starts at word `first` of the script, whose mask bytes
+// start at byte `from`.
+pub fn run(
+    script: &[u8],
+    part: &[u8],
+    first: usize,
+    n: usize,
+    from: usize,
+    state: HintState,
+    out: &mut [i32],
+) -> Ran
+    requires { ⌜ (4 * n ≤ length (now part)) × Runnable (now script) (rawAt (now part)) first n from ⌝ }
+    ensures { λ r. ⌜ Ended (ranOf state
+        (callsOf (now (script .entry)) from (commandsOf first (rawAt (now (part .entry))) n)) (now (out .entry))) r
+        (now (out .exit)) ⌝ }
+{
+    run_by(script, part, &[], false, first, n, from, state, out)
+}
+
+// Runs all of some words, which are commands with the masks of some bytes.
+pub fn run_given(masks: &[u8], words: &[i32], state: HintState, out: &mut [i32]) -> Ran
+    requires { ⌜ Runnable (now masks) (givenWord (now words)) 0 (length (now words)) 0 ⌝ }
+    ensures { λ r. ⌜ Ended (ranOf state (callsOf (now (masks .entry)) 0
+        (commandsOf 0 (givenWord (now (words .entry))) (length (now (words .entry))))) (now (out .entry))) r
+        (now (out .exit)) ⌝ }
+{
+    run_by(masks, masks, words, true, 0, words.len(), 0, state, out)
 }

@@ -2,7 +2,7 @@
 use mathlib.Core.Path.{_≡_, refl, ap, _∙_}
 use mathlib.Core.Bool.{Bool, true, false}
 use mathlib.Core.List.{List, _++_}
-use Prim.Native.Nat.{ℕ, _*_}
+use Prim.Native.Nat.{ℕ, _*_, _≤_}
 use native.Mathlib.Omega.{arith}
 use lib.IntN.{ℤ}
 use lib.ListN.{length, take, drop, length-drop}
@@ -58,18 +58,19 @@ zones-scale s = go (emBox (paramsOf (rawAt s)))
     go false = refl
 
 -- the commands of such a script can be run
-pub runnable : (s : List ℕ) → Passed s → Runnable s (drop (4 * rawAt s 4) s) (rawAt s 4) (rawAt s 5) (4 * rawAt s 6)
+pub runnable : (s : List ℕ) → Passed s → (4 * rawAt s 5 ≤ length (drop (4 * rawAt s 4) s)) ×
+    Runnable s (rawAt (drop (4 * rawAt s 4) s)) (rawAt s 4) (rawAt s 5) (4 * rawAt s 6)
 runnable s p =
-    let f = p .fine in
-    record {
-      there = omega (arith, length-drop (4 * rawAt s 4) s, f .ends);
-      short = omega (arith, f .ends, f .short);
-      start = omega (arith, f .ends, f .short);
-      bytes = rawAt s 7;
-      few = omega (arith, f .bytes, f .short);
-      inside = f .bytes;
-      faultless = p .commands;
-    }
+    let f = p .fine in (
+      omega (arith, length-drop (4 * rawAt s 4) s, f .ends),
+      record {
+        short = omega (arith, f .ends, f .short);
+        start = omega (arith, f .ends, f .short);
+        bytes = rawAt s 7;
+        inside = f .bytes;
+        faultless = p .commands;
+      },
+    )
 
 -- and their run is that of the script
 pub ran : (s : List ℕ) (out : List ℤ) →

@@ -7,6 +7,8 @@ use Rattle.words.specs.Answers.{numberOf, placeOf}
 use Rattle.script.specs.Script.{Result}
 use Rattle.overlay.specs.Seen.{SeenResult, seenNumber, seenPlace, seenSummary}
 use Rattle.writer.specs.Refusals.{WriteResult, writeNumber, writePlace, writtenBytes}
+use Rattle.labels.specs.Answers.{labelNumber, labelGlyph, labelPlace, labelWritten}
+use Rattle.labels.specs.Labels.{LabelResult}
 
 pub record Returned (o : Result) (said : ℕ) (left : List ℤ) (at : ℕ) : Type 0 where
   pub number : said ≡ numberOf (o .answer)
@@ -28,3 +30,10 @@ pub record EdgesReturned (o : SeenResult) (said : ℕ) (left : List ℤ) (edgeCo
   pub ghosts : ghostCount ≡ seenSummary (o .answer) .ghosts
   pub locked : lockedCount ≡ seenSummary (o .answer) .locked
   pub place : at ≡ seenPlace (o .answer)
+
+pub record LabelsReturned (o : LabelResult) (said : ℕ) (left : List ℤ) (words inGlyph at : ℕ) : Type 0 where
+  pub number : said ≡ labelNumber (o .answer)
+  pub memory : left ≡ o .left
+  pub written : words ≡ labelWritten (o .answer)
+  pub glyph : inGlyph ≡ labelGlyph (o .answer)
+  pub place : at ≡ labelPlace (o .answer)

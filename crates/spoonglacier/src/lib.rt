@@ -6,7 +6,8 @@ ghost use Rattle.writer.specs.ToWrite.{given};
 ghost use Rattle.writer.specs.ParamWords.{paramsIn};
 ghost use Rattle.writer.specs.Refusals.{writeOf};
 ghost use Rattle.overlay.specs.Seen.{seenOf};
-ghost use Rattle.spoonglacier.specs.Exported.{Returned, WriteReturned, EdgesReturned};
+ghost use Rattle.labels.specs.Labels.{label, labelsOf};
+ghost use Rattle.spoonglacier.specs.Exported.{Returned, WriteReturned, EdgesReturned, LabelsReturned};
 
 // Runs a script into a lent output; answers 01's number, and leaves its place behind the last
 // pointer.
@@ -69,4 +70,39 @@ pub extern "C" fn spoonglacier_edges(
     *locked = summary.locked;
     *place = seen.place();
     seen.code()
+}
+
+// Hints the glyphs of a label into one result; answers the label run's number, and leaves the words
+// of the result, the glyph and the place behind the last three pointers.
+#[no_mangle]
+pub extern "C" fn spoonglacier_labels(
+    scale: i32,
+    params: &[i32],
+    commands: &[i32],
+    masks: &[u8],
+    lengths: &[i32],
+    out: &mut [i32],
+    written: &mut usize,
+    glyph: &mut usize,
+    place: &mut usize,
+) -> u32
+    ensures { λ r. ⌜ LabelsReturned
+        (labelsOf
+        (label (fromBits scale) (paramsIn (now (params .entry))) (now (commands .entry)) (now (masks .entry))
+        (now (lengths .entry)))
+        (now (out .entry))) r (now (out .exit)) (now (written .exit)) (now (glyph .exit)) (now (place .exit)) ⌝ }
+{
+    let scale = Fixed { bits: scale };
+    let answer = labels::run_labels(
+        scale,
+        writer::params_from(params),
+        commands,
+        masks,
+        lengths,
+        out,
+    );
+    *written = answer.written();
+    *glyph = answer.glyph();
+    *place = answer.place();
+    answer.code()
 }

@@ -1,12 +1,13 @@
--- Laws of entries placed among others: none, one more by a store, and those behind others; no entry
--- is lost. Assumes nothing.
+-- Laws of entries placed among others: none, one more by a store, those behind others, and those
+-- somewhere behind others, whichever come first; no entry is lost. Assumes nothing.
 use mathlib.Core.Path.{_≡_, sym, ap, _∙_}
 use mathlib.Core.List.{List, [], _∷_, _++_, append-assoc}
-use Prim.Native.Nat.{ℕ, suc, _+_, _≤_, _<_}
+use Prim.Native.Nat.{ℕ, suc, _+_, _-_, _≤_, _<_}
 use native.Mathlib.Numerals.{add-one}
 use native.Mathlib.Omega.{arith}
 use lib.ListN.{length, take, drop, set, length-append, length-drop, take-append-drop}
-use lib.Seq.{length-take-le, take-suc-set, drop-set-lt, take-at, drop-at, drop-drop}
+use lib.Seq.{length-take-le, take-suc-set, drop-set-lt, take-at, drop-at, drop-drop, take-add, take-take}
+use lib.Seq.{take-append-le, take-append-add}
 use Rattle.words.specs.Bytes.{over, placed}
 
 module _ {A : Type 0} (lent : List A) where
@@ -64,3 +65,47 @@ module _ {A : Type 0} (lent : List A) where
         rw (e, sym (append-assoc (take i lent) xs (drop n lent)), fore, aft)
         (append-assoc (take i lent) xs (ys ++ rest) ∙
         ap (λ (l : List A). take i lent ++ l) (sym (append-assoc xs ys rest)))
+
+    -- some further on: either may be placed first
+    module _ (ys : List A) (j : ℕ) (k : i + length xs ≤ j) (l : j + length ys ≤ length lent) where
+      abbrev between : List A
+      between = take (j - (i + length xs)) (drop (i + length xs) lent)
+
+      abbrev behind : List A
+      behind = drop (j + length ys) lent
+
+      first-then : placed (placed lent i xs) j ys ≡ take i lent ++ (xs ++ (between ++ (ys ++ behind)))
+      unfolding placed
+      first-then =
+          let n = i + length xs in
+          let f = take i lent ++ xs in
+          let d = drop n lent in
+          let e : j ≡ length f + (j - n) = omega (arith, front) in
+          let g : n + (length ys + (j - n)) ≡ j + length ys = omega arith in
+          let fore : take j (f ++ d) ≡ f ++ between =
+          ap (λ (m : ℕ). take m (f ++ d)) e ∙ take-append-add f d (j - n) in
+          let aft : drop (j + length ys) (f ++ d) ≡ behind =
+          ap (λ (m : ℕ). drop m (f ++ d)) (sym g) ∙ sym (drop-drop (length ys + (j - n)) n (f ++ d)) ∙
+          ap (drop (length ys + (j - n))) (drop-at f d n front) ∙ drop-drop (length ys + (j - n)) n lent ∙
+          ap (λ (m : ℕ). drop m lent) g in
+          rw (sym (append-assoc (take i lent) xs d), fore, aft)
+          (append-assoc f between (ys ++ behind) ∙ append-assoc (take i lent) xs (between ++ (ys ++ behind)))
+
+      then-first : placed (placed lent j ys) i xs ≡ take i lent ++ (xs ++ (between ++ (ys ++ behind)))
+      unfolding placed
+      then-first =
+          let n = i + length xs in
+          let e : n + (j - n) ≡ j = omega arith in
+          let long = length-take-le j lent (omega arith) in
+          let split : take j lent ≡ take n lent ++ between =
+          ap (λ (m : ℕ). take m lent) (sym e) ∙ take-add n (j - n) lent in
+          let fore : take i (take j lent ++ (ys ++ behind)) ≡ take i lent =
+          take-append-le i (take j lent) (ys ++ behind) (omega arith) ∙ take-take i j lent (omega arith) in
+          let aft : drop n (take j lent ++ (ys ++ behind)) ≡ between ++ (ys ++ behind) =
+          ap (λ (q : List A). drop n (q ++ (ys ++ behind))) split ∙
+          ap (drop n) (append-assoc (take n lent) between (ys ++ behind)) ∙
+          drop-at (take n lent) (between ++ (ys ++ behind)) n (length-take-le n lent (omega arith)) in
+          rw (fore, aft)
+
+      pub placed-either : placed (placed lent i xs) j ys ≡ placed (placed lent j ys) i xs
+      placed-either = first-then ∙ sym then-first

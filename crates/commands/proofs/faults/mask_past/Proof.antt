@@ -10,8 +10,8 @@ use Rattle.commands.specs.Faults.{maskPast}
 use Rattle.commands.proofs.faults.mask_past.Statement.{statement}
 use Rattle.commands.proofs.faults.mask_past.Tie as tie
 
--- for as many mask bytes as a script can hold the end alone decides
-past-is : (start len bytes : ℕ) → bytes ≤ 65536 → maskPast start len bytes ≡ ltb bytes (start + len)
+-- for fewer than 2^31 mask bytes the end alone decides
+past-is : (start len bytes : ℕ) → bytes < 2147483648 → maskPast start len bytes ≡ ltb bytes (start + len)
 unfolding maskPast
 past-is start len bytes h = by (ltb bytes (start + len)) refl
   where

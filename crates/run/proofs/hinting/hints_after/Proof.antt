@@ -29,7 +29,7 @@ use Rattle.run.proofs.hinting.hints_after.Tie as tie
 
 abbrev Inv-loop : tie.InvT-loop
 Inv-loop script first n from state commands start hints₀ at₀ counter₀ hints at counter =
-    Looking state script (drop (4 * first) script) first n from commands hints at (commands - counter)
+    Looking state script (rawAt (drop (4 * first) script)) first n from commands hints at (commands - counter)
 
 abbrev μ-loop : tie.MeasureT-loop
 μ-loop script first n from state commands start hints₀ at₀ counter₀ hints at counter = commands - counter
@@ -43,7 +43,7 @@ first-inside : (c : tie.Else1 Inv-loop μ-loop) →
     4 * begin (c .before .before) .args .first ≤ length (begin (c .before .before) .args .script .now)
 first-inside c =
     let s = begin (c .before .before) in
-    omega (arith, s .pre .there, length-drop (4 * s .args .first) (s .args .script .now), c .if1 .left)
+    omega (arith, s .pre .0, length-drop (4 * s .args .first) (s .args .script .now), c .if1 .left)
 
 module _ (c : tie.After-read-command Inv-loop μ-loop) where
   abbrev here : tie.At-loop Inv-loop μ-loop
@@ -100,7 +100,7 @@ made c =
     (c .match .came)
 
 mul-start : tie.Need-mul-start Inv-loop μ-loop
-mul-start c = omega (arith, c .before .pre .start)
+mul-start c = omega (arith, c .before .pre .1 .start)
 
 new-requires : tie.Need-new-requires Inv-loop μ-loop
 new-requires c κs = search needs
@@ -109,8 +109,8 @@ loop-holds : tie.Need-loop-holds Inv-loop μ-loop
 loop-holds c =
     let s = c .before .before in
     let a = s .args in
-    rw (c .new .ensures) (looking (a .state) (a .script .now) (drop (4 * a .first) (a .script .now)) (a .first) (a .n)
-    (a .from) (a .commands) (s .pre) (omega arith))
+    rw (c .new .ensures) (looking (a .state) (a .script .now) (rawAt (drop (4 * a .first) (a .script .now))) (a .first)
+    (a .n) (a .from) (a .commands) (s .pre .1) (omega arith))
 
 returns : tie.Need-returns Inv-loop μ-loop
 returns c = none-there (c .before .before .loop .inv) (c .if1 .taken)
@@ -127,7 +127,7 @@ part-read-command-end c = search needs
 read-command-requires : tie.Need-read-command-requires Inv-loop μ-loop
 read-command-requires c κs =
     let s = begin (c .before .before .before) in
-    rw (lent (s .args .script .now) (4 * s .args .first)) (s .pre .there, (s .pre .short, c .before .if1 .left))
+    rw (lent (s .args .script .now) (4 * s .args .first)) (s .pre .0, c .before .if1 .left)
 
 enum-known-command : tie.Need-enum-known-command Inv-loop μ-loop
 enum-known-command c = search needs

@@ -1,9 +1,9 @@
--- `run` does the commands first to last, over hints that lists keep. At each turn the commands from
+-- `run_by` does the commands first to last, over hints that lists keep. At each turn the commands from
 -- here on, over the hints and the pen, make of the words from the next free one what all commands
 -- make of all words; a turn takes a command, or makes the map that one wants. Assumes nothing.
 use mathlib.Core.Path.{_≡_, refl, sym, ap, _∙_}
 use mathlib.Core.Bool.{true, false}
-use Prim.Native.Nat.{_+_, _-_, _*_, _<_, _≤_}
+use Prim.Native.Nat.{ℕ, _+_, _-_, _*_, _<_, _≤_}
 use native.Mathlib.Omega.{arith}
 use lib.ListN.{length, drop, length-drop}
 use borrow.Author.Tests.{leb-true}
@@ -15,61 +15,64 @@ use Rattle.pen.proofs.Lent.{lent, back}
 use Rattle.pen.proofs.Drew.{drew-wrote, drew-refused}
 use Rattle.hints.specs.Path.{hasPoint, strokeBy}
 use Rattle.build.specs.Made.{Serving}
-use Rattle.words.specs.Words.{rawAt}
 use Rattle.commands.specs.declared.reading.Read.{Read}
 use Rattle.commands.specs.declared.reading.Command.the-variants.{Mark, Draw}
 use Rattle.commands.specs.Commands.{readAt, nextAt}
 use Rattle.commands.proofs.Laws.{next-is}
-use Rattle.run.specs.Run.{wantsMap}
+use Rattle.run.specs.Run.{wantsMap, wordBy}
 use Rattle.run.proofs.Reading.{mask-there}
 use Rattle.run.proofs.Turns.{turn-done, unready, unready-one, wanted}
 use Rattle.run.proofs.Keeping.{Running, starts, mappable, closes, marks, readies, draws, refuses}
-use Rattle.run.proofs.running.run.Statement.{statement}
-use Rattle.run.proofs.running.run.Tie as tie
+use Rattle.run.proofs.running.run_by.Statement.{statement}
+use Rattle.run.proofs.running.run_by.Tie as tie
 
 abbrev Inv-loop : tie.InvT-loop
-Inv-loop script part first n from state out₀ zones mask₀ stems₀ initial₀ map₀ tags₀ notes₀ sizes₀ pen₀ next₀ at₀ out
-    mask stems initial map tags notes sizes pen next at =
-    Running state script part first n from out₀ mask stems initial map tags sizes pen next at out ×
-    Serving state zones notes
+Inv-loop script part words as-words first n from state out₀ zones mask₀ stems₀ initial₀ map₀ tags₀ notes₀ sizes₀ pen₀
+    next₀ at₀ out mask stems initial map tags notes sizes pen next at =
+    Running state script (wordBy as-words part words) first n from out₀ mask stems initial map tags sizes pen next at
+    out × Serving state zones notes
 
 abbrev μ-loop : tie.MeasureT-loop
-μ-loop script part first n from state out₀ zones mask₀ stems₀ initial₀ map₀ tags₀ notes₀ sizes₀ pen₀ next₀ at₀ out
-    mask stems initial map tags notes sizes pen next at =
+μ-loop script part words as-words first n from state out₀ zones mask₀ stems₀ initial₀ map₀ tags₀ notes₀ sizes₀ pen₀
+    next₀ at₀ out mask stems initial map tags notes sizes pen next at =
     2 * (n - at) + unready (sizes .valid)
 
 -- the arguments, from a turn's start
 abbrev begin : tie.At-loop Inv-loop μ-loop → tie.Start Inv-loop μ-loop
 begin l = l .before .before .before .before .before .before .before
 
+-- what gives its words
+abbrev words-of : tie.At-loop Inv-loop μ-loop → ℕ → ℕ
+words-of l = wordBy (begin l .args .as-words) (begin l .args .part .now) (begin l .args .words .now)
+
 -- no output is longer than memory
 room : (l : tie.At-loop Inv-loop μ-loop) → length (begin l .args .out .now) * 4 < 9223372036854775808
-room l = omega (arith, begin l .good .1 .1 .1 .1 .1 .1 .0)
+room l = omega (arith, begin l .good .1 .1 .1 .1 .1 .1 .1 .1 .0)
 
 -- the command that was read, and the word behind it
-module _ (c : tie.After-read-command Inv-loop μ-loop) where
+module _ (c : tie.After-read-by Inv-loop μ-loop) where
   abbrev turn : tie.At-loop Inv-loop μ-loop
   turn = c .before .before
 
-  read-is : c .read-command .result .command ≡
-      readAt (rawAt (begin turn .args .part .now)) (begin turn .args .n) (turn .loop .at) .command
-  read-is = ap (λ (r : Read). r .command) (c .read-command .ensures)
+  read-is : c .read-by .result .command ≡
+      readAt (words-of turn) (begin turn .args .n) (turn .loop .at) .command
+  read-is = ap (λ (r : Read). r .command) (c .read-by .ensures)
 
-  moved : c .read-command .result .next ≡ nextAt (rawAt (begin turn .args .part .now)) (turn .loop .at)
-  moved = ap (λ (r : Read). r .next) (c .read-command .ensures) ∙ next-is _ _ _
+  moved : c .read-by .result .next ≡ nextAt (words-of turn) (turn .loop .at)
+  moved = ap (λ (r : Read). r .next) (c .read-by .ensures) ∙ next-is _ _ _
 
 -- a command that writes nothing
 module _ (c : tie.After-command Inv-loop μ-loop) where
   abbrev mark-turn : tie.At-loop Inv-loop μ-loop
   mark-turn = turn (c .before .before)
 
-  mark-is : readAt (rawAt (begin mark-turn .args .part .now)) (begin mark-turn .args .n) (mark-turn .loop .at) .command
+  mark-is : readAt (words-of mark-turn) (begin mark-turn .args .n) (mark-turn .loop .at) .command
       ≡ Mark (c .command .given .0 .0)
   mark-is = sym (read-is (c .before .before)) ∙ c .command .given .1
 
 -- a call that draws
 module _ (c : tie.After-wants-map Inv-loop μ-loop) where
-  abbrev draw-read : tie.After-read-command Inv-loop μ-loop
+  abbrev draw-read : tie.After-read-by Inv-loop μ-loop
   draw-read = c .before .before .before .before
 
   abbrev draw-turn : tie.At-loop Inv-loop μ-loop
@@ -78,7 +81,7 @@ module _ (c : tie.After-wants-map Inv-loop μ-loop) where
   abbrev path : Path
   path = c .before .before .command2 .given .0 .0
 
-  draw-is : readAt (rawAt (begin draw-turn .args .part .now)) (begin draw-turn .args .n) (draw-turn .loop .at) .command
+  draw-is : readAt (words-of draw-turn) (begin draw-turn .args .n) (draw-turn .loop .at) .command
       ≡ Draw path
   draw-is = sym (read-is draw-read) ∙ c .before .before .command2 .given .1
 
@@ -114,15 +117,14 @@ loop-holds c =
     let s = c .before .before .before .before .before .before in
     let a = s .args in (
       rw (c .before .none .ensures, c .new .ensures)
-          (starts (a .state) (a .script .now) (a .part .now) (a .first) (a .n) (a .from) (a .out .now) _ _ _ (s .pre)
+          (starts (a .state) (a .script .now) _ (a .first) (a .n) (a .from) (a .out .now) _ _ _ (s .pre .1)
           (record { all = refl; named = refl }) refl),
       (c .before .before .list .ensures, refl),
     )
 
-read-command-requires : tie.Need-read-command-requires Inv-loop μ-loop
-read-command-requires c κs =
-    let r = begin (c .before) .pre in
-    (r .there, (r .short, c .loop-test .taken))
+read-by-requires : tie.Need-read-by-requires Inv-loop μ-loop
+read-by-requires c κs =
+    (begin (c .before) .pre .0, c .loop-test .taken)
 
 loop-less : tie.Need-loop-less Inv-loop μ-loop
 loop-less c =
@@ -211,11 +213,11 @@ draw-by-lines-requires c κs =
     let k = draw-turn (c .before .before .before .before) .loop .inv .0 .kept .map in
     (k .fits, λ e. k .order)
 
-add-t51 : tie.Need-add-t51 Inv-loop μ-loop
-add-t51 c =
+add-t53 : tie.Need-add-t53 Inv-loop μ-loop
+add-t53 c =
     let d = c .before .before .before in
     let l = call-turn d in
-    omega (arith, begin l .pre .start, begin l .pre .short, draw-read (asked d) .before .loop-test .taken)
+    omega (arith, begin l .pre .1 .start, begin l .pre .1 .short, draw-read (asked d) .before .loop-test .taken)
 
 returns : tie.Need-returns Inv-loop μ-loop
 returns c =
@@ -271,13 +273,13 @@ loop-again-4 c =
 returns-2 : tie.Need-returns-2 Inv-loop μ-loop
 returns-2 c = turn-done (c .before .loop .inv .0 .goes) (omega arith)
 
-pub run-spec : {M : Type 1} → statement M
-run-spec =
+pub run-by-spec : {M : Type 1} → statement M
+run-by-spec =
     tie.close
     (tie.spec Inv-loop μ-loop (λ c κs. search needs) (λ c κs. search needs) (λ c κs. search needs) loop-holds
-    read-command-requires
+    read-by-requires
     (λ c. search needs) (λ c κs. search needs) loop-less loop-again marked-requires loop-less-2 loop-again-2
     (λ c. search needs) (λ c κs. search needs) ready-requires loop-less-3 loop-again-3 mul-draw-by-lines
     within within (λ c. search needs) draw-by-lines-requires (λ c. search needs)
-    (λ c. search needs) add-t51 (λ c. same-out (c .before .before .before)) returns add-next loop-less-4 loop-again-4
+    (λ c. search needs) add-t53 (λ c. same-out (c .before .before .before)) returns add-next loop-less-4 loop-again-4
     (λ c. c .before .loop .inv .0 .goes .stands .along .same) returns-2)

@@ -1,0 +1,85 @@
+-- `fill_glyph` has all of a glyph's records written, and puts their place before them. Assumes
+-- nothing.
+use mathlib.Core.Path.{_≡_, refl, sym, ap, _∙_}
+use mathlib.Core.List.{List, [], _∷_, _++_}
+use Prim.Native.Nat.{ℕ, _+_, _-_, _≤_, _<_}
+use native.Mathlib.Omega.{arith}
+use lib.IntN.{ℤ, pos}
+use lib.ListN.{length, take, drop}
+use borrow.Author.Needs.{needs}
+use borrow.Rule.Slice.PartMut.{putMid, same-len-mid}
+use Rattle.pen.proofs.Lent.{lent, back}
+use Rattle.words.specs.Bytes.{placed}
+use Rattle.words.proofs.Placing.{placed-length}
+use Rattle.labels.specs.Glyphs.{Glyph, glyph, faultOf, recordsOf}
+use Rattle.labels.proofs.Filled.{size-is, ran-whole}
+use Rattle.labels.proofs.filling.fill_glyph.Statement.{statement}
+use Rattle.labels.proofs.filling.fill_glyph.Tie as tie
+
+-- the run has room for all of the glyph's records
+module _ (c : tie.After-run-given) where
+  abbrev begin : tie.Start
+  begin = c .before .before .before
+
+  abbrev given : Glyph
+  given = glyph (begin .args .words .now) (begin .args .masks .now)
+
+  abbrev out : List ℤ
+  out = begin .args .out .now
+
+  abbrev next : ℕ
+  next = begin .args .next
+
+  ran : (c .run-given .result .words ≡ length (recordsOf (begin .args .state) given)) ×
+      (putMid next (length out - next) out (c .run-given .last .1 .1 .1 .0) ≡
+      placed out next (recordsOf (begin .args .state) given))
+  ran =
+      let r = ran-whole (begin .args .state) given out next (begin .pre .fits)
+      (rw (lent out next) at (c .run-given .ensures)) in
+      (r .0, back next out _ ∙ r .1)
+
+run-given-requires : tie.Need-run-given-requires
+unfolding faultOf
+run-given-requires c κs =
+    let s = c .before .before in
+    record {
+      short = s .pre .short;
+      start = omega arith;
+      bytes = length (s .args .masks .now);
+      inside = omega arith;
+      faultless = s .pre .faultless;
+    }
+
+put-two-requires : tie.Need-put-two-requires
+put-two-requires c κs =
+    let r = c .before .before in
+    let p = begin r .pre in
+    let n = size-is (begin r .args .state) (given r) in
+    let l = placed-length (out r) (next r) (recordsOf (begin r .args .state) (given r)) (omega (arith, n, p .fits)) in
+    (omega (arith, ap length (ran r .1), l, p .before, p .fits), (omega (arith, p .word), omega (arith, ran r .0, n, p .word)))
+
+same-length : tie.Need-same-length
+same-length c =
+    let t = c .before in
+    let r = t .before .before .before in
+    t .put-two .kept .0 ∙
+    same-len-mid (next r) (length (out r) - next r) (out r) (r .run-given .last .1 .1 .1 .0)
+    (r .run-given .kept .1 .1 .1 .0)
+
+returns : tie.Need-returns
+returns c =
+    let t = c .before in
+    let r = t .before .before .before in (
+      ran r .0,
+      t .put-two .ensures ∙
+          ap (λ (l : List ℤ). placed l (begin r .args .slot) (pos (next r) ∷ pos (r .run-given .result .words) ∷ []))
+          (ran r .1) ∙
+          ap (λ (k : ℕ). placed (placed (out r) (next r) (recordsOf (begin r .args .state) (given r)))
+          (begin r .args .slot) (pos (next r) ∷ pos k ∷ [])) (ran r .0),
+    )
+
+pub fill-glyph-spec : {M : Type 1} → statement M
+fill-glyph-spec =
+    tie.close
+    (tie.spec (λ c. search needs) (λ c. omega (arith, c .before .pre .fits)) (λ c. omega (arith, c .before .pre .fits))
+    (λ c. search needs) run-given-requires put-two-requires same-length returns)

@@ -1,0 +1,4 @@
+pub mod Glyphs
+pub mod Answers
+pub mod Labels
+pub mod Measured

@@ -1,0 +1,84 @@
+// The result: the records of each glyph, run over a new drawing, with their place in the header.
+use crate::counts::size_at;
+use crate::measure::FIXED_HEADER;
+use run::run_given;
+use zones::HintState;
+ghost use mathlib.Core.Path.{_≡_};
+ghost use mathlib.Core.List.{[], _∷_, map};
+ghost use Prim.Native.Nat.{_+_, _≤_, _<_};
+ghost use lib.IntN.{pos};
+ghost use lib.ListN.{length};
+ghost use Rattle.pen.specs.Records.{written};
+ghost use Rattle.words.specs.Bytes.{placed};
+ghost use Rattle.labels.specs.Glyphs.{glyph, glyphsOf, recordsOf};
+ghost use Rattle.labels.specs.Labels.{labelWords};
+ghost use Rattle.labels.specs.Measured.{Settable, setAt, Fillable};
+
+// What the first word of a result says.
+const RESULT_VERSION: usize = 1;
+
+// Two counts or offsets as words.
+fn put_two(out: &mut [i32], i: usize, first: usize, second: usize)
+    requires { ⌜ (i + 2 ≤ length (now out)) × ((first < 2147483648) × (second < 2147483648)) ⌝ }
+    ensures { λ _. ⌜ now (out .exit) ≡ placed (now (out .entry)) i (pos first ∷ pos second ∷ []) ⌝ }
+{
+    let one = first as u32;
+    let other = second as u32;
+    out[i] = one as i32;
+    out[i + 1] = other as i32;
+}
+
+// A glyph's records from the next free word on, and their place in the header; how many words they
+// have.
+fn fill_glyph(
+    masks: &[u8],
+    words: &[i32],
+    state: HintState,
+    out: &mut [i32],
+    slot: usize,
+    next: usize,
+) -> usize
+    requires { ⌜ Settable (glyph (now words) (now masks)) slot next (length (now out)) ⌝ }
+    ensures { λ r. ⌜ (r ≡ length (recordsOf state (glyph (now (words .entry)) (now (masks .entry))))) ×
+        (now (out .exit) ≡ setAt state (glyph (now (words .entry)) (now (masks .entry))) slot next
+        (now (out .entry))) ⌝ }
+{
+    let ran = run_given(masks, words, state, &mut out[next..]);
+    put_two(out, slot, next, ran.words);
+    ran.words
+}
+
+// Glyphs that pass all tests, into an output that has room for them.
+pub(crate) fn fill(
+    commands: &[i32],
+    masks: &[u8],
+    lengths: &[i32],
+    state: HintState,
+    out: &mut [i32],
+)
+    requires { ⌜ Fillable (now lengths) (now commands) (now masks) (length (now out)) ⌝ }
+    ensures { λ _. ⌜ now (out .exit) ≡ written (labelWords (map (recordsOf state)
+        (glyphsOf (now (lengths .entry)) (now (commands .entry)) (now (masks .entry))))) (now (out .entry)) ⌝ }
+{
+    put_two(out, 0, RESULT_VERSION, lengths.len() / 2);
+    let mut next = FIXED_HEADER + lengths.len();
+    let mut at = 0;
+    let mut word = 0;
+    let mut byte = 0;
+    while at < lengths.len() {
+        let words_end = word + size_at(lengths, at);
+        let bytes_end = byte + size_at(lengths, at + 1);
+        let words = fill_glyph(
+            &masks[byte..bytes_end],
+            &commands[word..words_end],
+            state,
+            out,
+            FIXED_HEADER + at,
+            next,
+        );
+        next = next + words;
+        at = at + 2;
+        word = words_end;
+        byte = bytes_end;
+    }
+}
