@@ -5,11 +5,11 @@ use super::{fault, hint, word_at, Fixed, LENGTHS};
 use read_fonts::ps::{charstring::CommandSink, Blues};
 
 /// Writes records into the lent words until one does not fit.
-struct Plain<'a> {
-    out: &'a mut [i32],
-    used: usize,
-    records: i32,
-    full: bool,
+pub(super) struct Plain<'a> {
+    pub(super) out: &'a mut [i32],
+    pub(super) used: usize,
+    pub(super) records: i32,
+    pub(super) full: bool,
 }
 
 impl Plain<'_> {

@@ -1,4 +1,4 @@
-//! The scripts that are measured: three shapes, each from a fixed seed.
+//! The scripts that are measured: three shapes, each from a fixed seed, and words of short labels.
 
 use generate::{Numbers, Script};
 
@@ -23,6 +23,19 @@ pub fn shapes() -> Vec<Shape> {
         made("long glyphs", 32, 2, long, 1),
         made("mask-heavy glyphs", 24, 1, masked, 2),
     ]
+}
+
+/// How many words there are, and how many labels each has.
+const WORDS: u64 = 12;
+const LETTERS: usize = 8;
+
+/// The labels of each word, which are of one face at one size.
+pub fn words() -> Vec<Vec<Script>> {
+    let word = |n: &mut Numbers| {
+        let face = label_face(n);
+        (0..LETTERS).map(|_| letter(n, face.clone())).collect()
+    };
+    (0..WORDS).map(|number| word(&mut Numbers::new(SEED + 3, number))).collect()
 }
 
 pub fn points(script: &Script) -> usize {
@@ -155,13 +168,22 @@ fn contours(
     script.put(9, &[]);
 }
 
-fn label(n: &mut Numbers) -> Script {
-    let mut script = text_face(n.between(9, 18));
+fn label_face(n: &mut Numbers) -> Script {
+    text_face(n.between(9, 18))
+}
+
+/// A short label, of a face that has no commands yet.
+fn letter(n: &mut Numbers, mut script: Script) -> Script {
     let count = n.between(2, 6) as usize;
     let edges = letter_stems(n, &mut script, count);
     let count = n.between(10, 30) as usize;
     contours(n, &mut script, edges, count, 2, |_, _| {});
     script
+}
+
+fn label(n: &mut Numbers) -> Script {
+    let face = label_face(n);
+    letter(n, face)
 }
 
 fn long(n: &mut Numbers) -> Script {

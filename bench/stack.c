@@ -3,8 +3,8 @@
    much was used. The scripts are those of the files that are named, tables as crates/test_scripts reads
    them, and demanding ones that are made here: full lists of pairs, more stems than are kept, masks
    that change between all strokes, and paths up to the longest script. Each is run, and its edges are
-   listed. Scripts up to the longest are written too, with no pairs to all 28, and each kind of refusal
-   is called for. */
+   listed; of the demanding ones words of labels are made, which label runs hint. Scripts up to the longest
+   are written too, with no pairs to all 28. Each kind of refusal is called for. */
 #include <stdint.h>
 #include <stdio.h>
 #include <stdlib.h>
@@ -41,8 +41,8 @@ static void edges_call(void) {
                                 &place);
 }
 
-/* A function that takes a script, and its name. */
-static void (*call)(void) = run_call;
+/* The function that is called, and its name. */
+static void (*call)(void);
 static const char *called;
 
 /* Calls a function on the stack that is looked at. */
@@ -79,11 +79,11 @@ static size_t used(void) {
 /* The deepest call so far, over all groups of scripts. */
 static size_t deepest;
 
-static void report(const char *name, int scripts, int fine) {
+static void report(const char *name, int calls, int fine) {
     size_t bytes = used();
     if (bytes > deepest)
         deepest = bytes;
-    printf("%s, %s: %d scripts, %d of them OK, %zu bytes\n", called, name, scripts, fine, bytes);
+    printf("%s, %s: %d calls, %d of them OK, %zu bytes\n", called, name, calls, fine, bytes);
 }
 
 /* ---- stored scripts */
@@ -186,12 +186,10 @@ static void masks(void) {
         put((int32_t)(UINT32_C(0xFFF7BDAF) * (uint32_t)(2 * i + 1)));
 }
 
-static void made(void) {
+/* Makes each of these scripts in turn, as words, for a function that takes it from there. */
+static void each_made(void (*take)(void)) {
     static const int widths[] = {-20, -21, 0, 3, 11, 40, -60};
     static const int32_t scales[] = {1, 700, 2048, 2597, 65536, 1 << 24};
-    static uint8_t bytes[SPOONGLACIER_MOST_SCRIPT_BYTES];
-    int scripts = 0, fine = 0;
-    paint();
     for (size_t w = 0; w < sizeof widths / sizeof *widths; w++)
         for (size_t s = 0; s < sizeof scales / sizeof *scales; s++)
             for (int shape = 0; shape < 8; shape++) {
@@ -200,16 +198,28 @@ static void made(void) {
                 commands(SPOONGLACIER_MOST_STEMS + 4, 12, widths[w], masked);
                 masks();
                 words[1] = scales[s];
-                for (int32_t i = 0; i < count; i++)
-                    for (int k = 0; k < 4; k++)
-                        bytes[4 * i + k] = (uint8_t)((uint32_t)words[i] >> (8 * k));
-                run(bytes, 4 * (size_t)count, room);
-                if (answer != SPOONGLACIER_OK)
-                    stop("a script that is made here is refused");
-                scripts++;
-                fine++;
+                take();
             }
-    report("made here", scripts, fine);
+}
+
+static int made_scripts;
+
+static void run_made(void) {
+    static uint8_t bytes[SPOONGLACIER_MOST_SCRIPT_BYTES];
+    for (int32_t i = 0; i < count; i++)
+        for (int k = 0; k < 4; k++)
+            bytes[4 * i + k] = (uint8_t)((uint32_t)words[i] >> (8 * k));
+    run(bytes, 4 * (size_t)count, room);
+    if (answer != SPOONGLACIER_OK)
+        stop("a script that is made here is refused");
+    made_scripts++;
+}
+
+static void made(void) {
+    made_scripts = 0;
+    paint();
+    each_made(run_made);
+    report("made here", made_scripts, made_scripts);
 }
 
 /* ---- scripts that are written, from the words above without their header and parameters */
@@ -218,19 +228,20 @@ enum { written_room = 2 * SPOONGLACIER_MOST_SCRIPT_BYTES, most_masks = SPOONGLAC
 static int32_t scale, params[SPOONGLACIER_PARAMS_WORDS];
 static uint8_t mask_bytes[most_masks], written_script[written_room];
 static size_t params_words, masks_given, write_room, written;
-static int written_scripts, written_fine;
+static int calls, fine_calls;
 
 static void write_call(void) {
     answer = spoonglacier_write(scale, params, params_words, words, (size_t)count, mask_bytes, masks_given,
                                 written_script, write_room, &written, &place);
 }
 
+/* Makes the call, which must have this answer. */
 static void expect(uint32_t number) {
-    on_stack(write_call);
+    on_stack(call);
     if (answer != number)
-        stop("a script that is to be written has another answer than it should");
-    written_scripts++;
-    written_fine += answer == SPOONGLACIER_OK;
+        stop("a call has another answer than it should");
+    calls++;
+    fine_calls += answer == SPOONGLACIER_OK;
 }
 
 /* Gives what is written as so many words in all, with so many pairs a list: stems, masks and strokes as
@@ -299,7 +310,7 @@ static void refused(void) {
 static void made_to_write(const char *name) {
     static const int pair_counts[] = {0, 1, SPOONGLACIER_MOST_PAIRS};
     static const size_t sizes[] = {72, 80, 128, 1024, most_words - 1, most_words};
-    written_scripts = written_fine = 0;
+    calls = fine_calls = 0;
     paint();
     for (size_t p = 0; p < sizeof pair_counts / sizeof *pair_counts; p++)
         for (size_t s = 0; s < sizeof sizes / sizeof *sizes; s++) {
@@ -317,7 +328,68 @@ static void made_to_write(const char *name) {
                 expect(SPOONGLACIER_SCRIPT_ROOM);
             }
         }
-    report(name, written_scripts, written_fine);
+    report(name, calls, fine_calls);
+}
+
+/* ---- words of labels: two glyphs that are made here, the same, and one without commands between them */
+enum { label_glyphs = 3, label_lengths = SPOONGLACIER_GLYPH_LENGTHS * label_glyphs };
+
+static int32_t label_commands[2 * most_words], lengths[label_lengths], label_out[2 * room];
+static size_t label_words, length_words, label_room, glyph;
+
+static void labels_call(void) {
+    answer = spoonglacier_labels(scale, params, SPOONGLACIER_PARAMS_WORDS, label_commands, label_words, mask_bytes,
+                                 masks_given, lengths, length_words, label_out, label_room, &written, &glyph, &place);
+}
+
+static void give_label(void) {
+    size_t first = (size_t)words[4], own = (size_t)words[5], bytes = (size_t)words[7], pairs = (size_t)words[12];
+    int32_t own_lengths[label_lengths] = {(int32_t)own, (int32_t)bytes, 0, 0, (int32_t)own, (int32_t)bytes};
+    const int32_t *from = words + SPOONGLACIER_HEADER_WORDS;
+    scale = words[1];
+    memcpy(params, from, 4 * SPOONGLACIER_PARAMETER_WORDS);
+    for (size_t i = 0; i < lists; i++)
+        memcpy(params + SPOONGLACIER_PARAMETER_WORDS + 2 * SPOONGLACIER_MOST_PAIRS * i,
+               from + SPOONGLACIER_PARAMETER_WORDS + 2 * pairs * i, 8 * pairs);
+    for (size_t i = 0; i < 2; i++) {
+        memcpy(label_commands + own * i, words + first, 4 * own);
+        memcpy(mask_bytes + bytes * i, words + words[6], bytes);
+    }
+    memcpy(lengths, own_lengths, sizeof lengths);
+    label_words = 2 * own;
+    masks_given = 2 * bytes;
+    length_words = label_lengths;
+    label_room = 2 * room;
+}
+
+/* The word, and every refusal of it. Each is looked for before those above it, whose faults are left in. */
+static void label_made(void) {
+    size_t last_glyph;
+    give_label();
+    last_glyph = label_words / 2;
+    expect(SPOONGLACIER_OK);
+    label_room = written - 1;
+    expect(SPOONGLACIER_NO_ROOM);
+    label_commands[label_words - 1] = SPOONGLACIER_FINISH + 1;
+    expect(SPOONGLACIER_BAD_COMMAND);
+    label_commands[label_words - 1] = SPOONGLACIER_CURVE;
+    expect(SPOONGLACIER_BAD_COMMAND);
+    label_commands[last_glyph] = SPOONGLACIER_HINT_MASK;
+    label_commands[last_glyph + 1] = -1;
+    expect(SPOONGLACIER_BAD_MASK);
+    params[lists] = SPOONGLACIER_MOST_PAIRS + 1;
+    expect(SPOONGLACIER_BAD_BLUES);
+    scale = 0;
+    expect(SPOONGLACIER_BAD_SCALE);
+    length_words--;
+    expect(SPOONGLACIER_RUN_COUNT);
+}
+
+static void made_labels(void) {
+    calls = fine_calls = 0;
+    paint();
+    each_made(label_made);
+    report("made here", calls, fine_calls);
 }
 
 /* The scripts of the files that are named, and those that are made here. */
@@ -328,11 +400,16 @@ static void scripts_of(int argc, char **argv) {
 }
 
 int main(int argc, char **argv) {
+    call = write_call;
     called = "spoonglacier_write";
     made_to_write("first calls");
     made_to_write("later calls");
+    call = run_call;
     called = "spoonglacier_run";
     scripts_of(argc, argv);
+    call = labels_call;
+    called = "spoonglacier_labels";
+    made_labels();
     call = edges_call;
     called = "spoonglacier_edges";
     scripts_of(argc, argv);

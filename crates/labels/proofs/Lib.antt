@@ -5,3 +5,4 @@ pub mod Measuring
 pub mod Filled
 pub mod Surveys
 pub mod Answering
+pub mod Unique

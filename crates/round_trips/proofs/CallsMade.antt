@@ -46,7 +46,7 @@ mask-call s l m n v w k e q = by (eqb k 2) refl e
 -- behind so many bytes of a script stand the mask bytes
 module _ (s masks zeros : List ℕ) (from : ℕ) (there : drop from s ≡ masks ++ zeros) where
   -- some of them
-  bytes-there : (n len : ℕ) → n + len ≤ length masks → take len (drop (from + n) s) ≡ take len (drop n masks)
+  pub bytes-there : (n len : ℕ) → n + len ≤ length masks → take len (drop (from + n) s) ≡ take len (drop n masks)
   bytes-there n len h =
       rw (sym (drop-drop n from s), there, drop-append-le n masks zeros (omega arith))
       (take-append-le len (drop n masks) zeros (omega (arith, length-drop n masks)))

@@ -83,7 +83,7 @@ module _ (w : ℕ → ℕ) (i bytes : ℕ) where
 
 -- ---- commands that pieces are read as
 -- a command is made of its own words, wherever they stand
-command-moved : (v w : ℕ → ℕ) (i k : ℕ) → ((j : ℕ) → j < 1 + operandsOf k → w (i + j) ≡ v j) →
+pub command-moved : (v w : ℕ → ℕ) (i k : ℕ) → ((j : ℕ) → j < 1 + operandsOf k → w (i + j) ≡ v j) →
     commandOf w i k ≡ commandOf v 0 k
 unfolding commandOf operandsOf
 command-moved v w i zero h = refl
@@ -117,7 +117,7 @@ command-moved v w i (suc (suc (suc (suc (suc (suc (suc (suc (suc (suc k)))))))))
     no-command w i n (omega arith) ∙ sym (no-command v 0 n (omega arith))
 
 -- words that stand from word i on, one by one
-holds-at : (w : ℕ → ℕ) (i : ℕ) (ns : List ℕ) → Holds w i ns → (j : ℕ) → j < length ns → w (i + j) ≡ getD ns j 0
+pub holds-at : (w : ℕ → ℕ) (i : ℕ) (ns : List ℕ) → Holds w i ns → (j : ℕ) → j < length ns → w (i + j) ≡ getD ns j 0
 holds-at w i [] h j l = absurd (omega arith)
 holds-at w i (n ∷ ns) h zero l = let z : i + 0 ≡ i = omega arith in rw z (h .0)
 holds-at w i (n ∷ ns) h (suc j) l =

@@ -1,15 +1,19 @@
--- The layout of a script: the words and the mask bytes of one that the writer does not refuse, read
--- from its bytes, and what is written of one that the reader accepts. Assumes nothing.
+-- The layout of a script: the words and the mask bytes of one that holds so much, read from its bytes,
+-- and what is written of one that the reader accepts. Assumes nothing.
 use mathlib.Core.Path.{_≡_, refl, sym, ap, _∙_}
 use mathlib.Core.Bool.{Bool, true, false, _&&_, true≢false}
 use mathlib.Core.List.{List, [], _∷_, _++_, map}
 use Prim.Native.Nat.{ℕ, _+_, _-_, _*_, _/_, _%_, _≤_, _<_, _^_}
 use native.Mathlib.Omega.{arith}
 use lib.Dec.{eqb}
-use lib.ListN.{length, take, drop, replicate, length-drop, take-append-drop}
+use lib.IntN.{pos}
+use lib.ListN.{length, take, drop, replicate, length-append, length-drop, take-append-drop}
 use lib.Seq.{drop-at, drop-drop}
 use borrow.Author.Tests.{eqb-true, not-false}
+use Rattle.fixed.specs.declared.Fixed.{Fixed}
 use Rattle.fixed.specs.Integers.{bitsOf}
+use Rattle.fixed.specs.Fixed.{fromBits, lessF}
+use Rattle.zones.specs.declared.state.HintParams.{HintParams}
 use Rattle.words.specs.declared.answer.Answer.the-variants.{Ok}
 use Rattle.words.specs.Words.{rawAt, negative, wordsFrom}
 use Rattle.words.specs.Bytes.{bytesOf}
@@ -26,9 +30,10 @@ use Rattle.script.proofs.Passed.{Passed, passed}
 use Rattle.writer.specs.Pieces.{givenOperands}
 use Rattle.writer.specs.ToWrite.{Given, numberWord, paramWords, piecesIn, commandWords, headerWords, scriptWords}
 use Rattle.writer.specs.ToWrite.{paddedBytes, scriptFor}
+use Rattle.writer.specs.Refusals.{FineParams}
 use Rattle.writer.proofs.Cutting.{joined-pieces}
 use Rattle.writer.proofs.Laying.{signed-bits}
-use Rattle.writer.proofs.Sizes.{words-length, script-length}
+use Rattle.writer.proofs.Sizes.{padded-length, script-length}
 use Rattle.writer.proofs.Answering.{Unrefused}
 use Rattle.readback.specs.ReadBack.{givenIn}
 use Rattle.readback.proofs.ReadRooms.{masks-length}
@@ -38,65 +43,99 @@ use Rattle.round_trips.proofs.WordBytes.{holds-moved, words-there, word
 use Rattle.round_trips.proofs.Parameters.{number-small, params-small, param-words}
 use Rattle.round_trips.proofs.Starts.{starts-small}
 
--- ---- a script that the writer does not refuse
+-- ---- a script by what it holds
+-- a scale, parameters, command words and mask bytes
+pub record Contents : Type 0 where
+  pub scale : Fixed
+  pub params : HintParams
+  pub commands : List ℕ
+  pub masks : List ℕ
+
+abbrev pub contents : Fixed → HintParams → List ℕ → List ℕ → Contents
+contents scale params commands masks =
+    record { scale = scale; params = params; commands = commands; masks = masks }
+
 -- how many words the parameters and the commands take, and all words
-abbrev pub paramCount : Given → ℕ
-paramCount g = length (paramWords (g .params))
+abbrev pub paramCount : Contents → ℕ
+paramCount c = length (paramWords (c .params))
 
-abbrev pub commandCount : Given → ℕ
-commandCount g = length (commandWords (g .commands))
+abbrev pub commandCount : Contents → ℕ
+commandCount c = length (c .commands)
 
-abbrev pub wordCount : Given → ℕ
-wordCount g = 8 + paramCount g + commandCount g
+abbrev pub wordCount : Contents → ℕ
+wordCount c = 8 + paramCount c + commandCount c
 
 -- and the zeros behind so many mask bytes
 abbrev pub zerosBehind : ℕ → List ℕ
 zerosBehind n = replicate (4 * padded n - n) 0
 
+-- the words, and the bytes
+unfoldable pub wordsWith : Contents → List ℕ
+wordsWith c =
+    headerWords (c .scale) (paramCount c) (commandCount c) (length (c .masks)) ++
+    (paramWords (c .params) ++ c .commands)
+
+unfoldable pub scriptWith : Contents → List ℕ
+scriptWith c = bytesOf (wordsWith c) ++ paddedBytes (c .masks)
+
+-- how many there are
+words-many : (c : Contents) → length (wordsWith c) ≡ wordCount c
+unfolding wordsWith
+words-many c = omega (arith, length-append (paramWords (c .params)) (c .commands))
+
+pub bytes-many : (c : Contents) → length (scriptWith c) ≡ 4 * (wordCount c + padded (length (c .masks)))
+unfolding scriptWith
+bytes-many c =
+    omega (
+      arith,
+      length-append (bytesOf (wordsWith c)) (paddedBytes (c .masks)),
+      bytes-length (wordsWith c),
+      words-many c,
+      padded-length (c .masks),
+    )
+
 -- the words of the header, and where the others stand
-pub record LaidOut (g : Given) (w : ℕ → ℕ) : Type 0 where
+pub record LaidOut (c : Contents) (w : ℕ → ℕ) : Type 0 where
   pub version : w 0 ≡ 1
-  pub scale : w 1 ≡ numberWord (g .scale)
+  pub scale : w 1 ≡ numberWord (c .scale)
   pub paramsAt : w 2 ≡ 8
-  pub params : w 3 ≡ paramCount g
-  pub commandsAt : w 4 ≡ 8 + paramCount g
-  pub commands : w 5 ≡ commandCount g
-  pub masksAt : w 6 ≡ wordCount g
-  pub masks : w 7 ≡ length (g .masks)
-  pub paramsThere : Holds w 8 (paramWords (g .params))
-  pub commandsThere : Holds w (8 + paramCount g) (commandWords (g .commands))
+  pub params : w 3 ≡ paramCount c
+  pub commandsAt : w 4 ≡ 8 + paramCount c
+  pub commands : w 5 ≡ commandCount c
+  pub masksAt : w 6 ≡ wordCount c
+  pub masks : w 7 ≡ length (c .masks)
+  pub paramsThere : Holds w 8 (paramWords (c .params))
+  pub commandsThere : Holds w (8 + paramCount c) (c .commands)
 
-module _ (g : Given) (c : Unrefused g) where
-  -- the command words are below 2^32
-  commands-small : Small (commandWords (g .commands))
-  unfolding commandWords
-  commands-small =
-      let few : 0 + length (g .masks) < 2 ^ 32 = omega (arith, c .short, script-length g) in
-      starts-small 0 0 (length (g .masks)) (piecesIn (g .commands)) (c .pieces) few
-      (rw (joined-pieces givenOperands (map bitsOf (g .commands))) (bits-small (g .commands)))
+-- what a script can hold: the scale is 1 bit or more, the counts are fine, the command words are
+-- below 2^32, and the script is short
+pub record Holdable (c : Contents) : Type 0 where
+  pub scaled : lessF (c .scale) (fromBits (pos 1)) ≡ false
+  pub params : FineParams (c .params)
+  pub small : Small (c .commands)
+  pub short : length (scriptWith c) ≤ 65536
 
-  -- all of them are below 2^32
-  words-small : Small (scriptWords g)
-  unfolding scriptWords
+module _ (c : Contents) (f : Holdable c) where
+  -- all words are below 2^32
+  words-small : Small (wordsWith c)
+  unfolding wordsWith
   words-small =
-      let header = headerWords (g .scale) (paramCount g) (commandCount g) (length (g .masks)) in
-      small-both header (paramWords (g .params) ++ commandWords (g .commands))
-      (omega (arith, number-small (g .scale), script-length g, c .short))
-      (small-both (paramWords (g .params)) (commandWords (g .commands)) (params-small (g .params) (c .params))
-      commands-small)
+      let header = headerWords (c .scale) (paramCount c) (commandCount c) (length (c .masks)) in
+      small-both header (paramWords (c .params) ++ c .commands)
+      (omega (arith, number-small (c .scale), bytes-many c, f .short))
+      (small-both (paramWords (c .params)) (c .commands) (params-small (c .params) (f .params)) (f .small))
 
   -- so they come out of the script's bytes
-  words-read : Holds (rawAt (scriptFor g)) 0 (scriptWords g)
-  unfolding scriptFor
-  words-read = words-there (scriptFor g) 0 (scriptWords g) (paddedBytes (g .masks)) refl words-small
+  words-read : Holds (rawAt (scriptWith c)) 0 (wordsWith c)
+  unfolding scriptWith
+  words-read = words-there (scriptWith c) 0 (wordsWith c) (paddedBytes (c .masks)) refl words-small
 
   -- each in its place
-  pub laid-out : LaidOut g (rawAt (scriptFor g))
-  unfolding scriptWords
+  pub laid-out : LaidOut c (rawAt (scriptWith c))
+  unfolding wordsWith
   laid-out =
-      let w = rawAt (scriptFor g) in
-      let ps = paramWords (g .params) in
-      let cs = commandWords (g .commands) in
+      let w = rawAt (scriptWith c) in
+      let ps = paramWords (c .params) in
       let k = words-read in
       let behind = k .1 .1 .1 .1 .1 .1 .1 .1 in
       record {
@@ -108,33 +147,55 @@ module _ (g : Given) (c : Unrefused g) where
         commands = k .1 .1 .1 .1 .1 .0;
         masksAt = k .1 .1 .1 .1 .1 .1 .0;
         masks = k .1 .1 .1 .1 .1 .1 .1 .0;
-        paramsThere = holds-front w 8 ps cs behind;
-        commandsThere = holds-back w 8 (8 + paramCount g) ps cs refl behind;
+        paramsThere = holds-front w 8 ps (c .commands) behind;
+        commandsThere = holds-back w 8 (8 + paramCount c) ps (c .commands) refl behind;
       }
 
   -- the command words, from their offset on
-  pub commands-read : Holds (rawAt (drop (4 * (8 + paramCount g)) (scriptFor g))) 0 (commandWords (g .commands))
+  pub commands-read : Holds (rawAt (drop (4 * (8 + paramCount c)) (scriptWith c))) 0 (c .commands)
   commands-read =
-      let at = 8 + paramCount g in
+      let at = 8 + paramCount c in
       let z : at + 0 ≡ at = omega arith in
-      holds-moved _ (rawAt (scriptFor g)) at (raw-drop (scriptFor g) at) 0 (commandWords (g .commands))
+      holds-moved _ (rawAt (scriptWith c)) at (raw-drop (scriptWith c) at) 0 (c .commands)
       (rw z (laid-out .commandsThere))
 
 -- the mask bytes stand behind the words
-pub masks-there : (g : Given) → drop (4 * wordCount g) (scriptFor g) ≡ paddedBytes (g .masks)
-unfolding scriptFor
-masks-there g =
-    drop-at (bytesOf (scriptWords g)) (paddedBytes (g .masks)) (4 * wordCount g)
-    (omega (arith, bytes-length (scriptWords g), words-length g))
+pub masks-there : (c : Contents) → drop (4 * wordCount c) (scriptWith c) ≡ paddedBytes (c .masks)
+unfolding scriptWith
+masks-there c =
+    drop-at (bytesOf (wordsWith c)) (paddedBytes (c .masks)) (4 * wordCount c)
+    (omega (arith, bytes-length (wordsWith c), words-many c))
 
 -- and zeros behind them
-pub zeros-there : (g : Given) →
-    drop (4 * wordCount g + length (g .masks)) (scriptFor g) ≡ zerosBehind (length (g .masks))
+pub zeros-there : (c : Contents) →
+    drop (4 * wordCount c + length (c .masks)) (scriptWith c) ≡ zerosBehind (length (c .masks))
 unfolding paddedBytes
-zeros-there g =
-    sym (drop-drop (length (g .masks)) (4 * wordCount g) (scriptFor g)) ∙
-    ap (drop (length (g .masks))) (masks-there g) ∙
-    drop-at (g .masks) (zerosBehind (length (g .masks))) (length (g .masks)) refl
+zeros-there c =
+    sym (drop-drop (length (c .masks)) (4 * wordCount c) (scriptWith c)) ∙
+    ap (drop (length (c .masks))) (masks-there c) ∙
+    drop-at (c .masks) (zerosBehind (length (c .masks))) (length (c .masks)) refl
+
+-- ---- a script that the writer does not refuse
+-- the command words have the starts of their masks
+abbrev pub contentsOf : Given → Contents
+contentsOf g = contents (g .scale) (g .params) (commandWords (g .commands)) (g .masks)
+
+pub script-is : (g : Given) → scriptFor g ≡ scriptWith (contentsOf g)
+unfolding scriptFor scriptWords scriptWith wordsWith
+script-is g = refl
+
+pub holdable : (g : Given) → Unrefused g → Holdable (contentsOf g)
+unfolding commandWords
+holdable g c =
+    let few : 0 + length (g .masks) < 2 ^ 32 = omega (arith, c .short, script-length g) in
+    record {
+      scaled = c .scaled;
+      params = c .params;
+      small =
+          starts-small 0 0 (length (g .masks)) (piecesIn (g .commands)) (c .pieces) few
+          (rw (joined-pieces givenOperands (map bitsOf (g .commands))) (bits-small (g .commands)));
+      short = rw (script-is g) at (c .short);
+    }
 
 -- ---- a script that the reader accepts
 -- the rest of its header, and what its mask bytes end with

@@ -116,8 +116,8 @@ returns-4 c =
     let m = e .before in
     let l = given (start (fine m)) in
     labelled-result l (out m) (answered m) (accepted e)
-    (f .fill .ensures ∙
-    ap (λ (st : HintState). written (labelWords (map (recordsOf st) (glyphsIn l))) (out m)) (n .new .ensures))
+    (_∙_ {b = written (labelWords (map (recordsOf (n .new .result)) (glyphsIn l))) (out m)} (f .fill .ensures)
+    (ap (λ (st : HintState). written (labelWords (map (recordsOf st) (glyphsIn l))) (out m)) (n .new .ensures)))
 
 pub run-labels-spec : {M : Type 1} → statement M
 run-labels-spec =
