@@ -102,11 +102,12 @@ module _ {g : Glyph} {t : Trail} {count at : ℕ} (m : Surveying g t count at) w
     -- a command that has a fault
     pub stopped : (numberOf f ≡ 0 → ⊥) → _≡_ {A = Surveyed} (record { answer = f; words = 0 }) (surveyOf g)
     stopped k =
-        survey-fault g (fault-here 0 (word g) (many g) (bytes g) at h f placed-fault (omega (arith, k)) ∙ sym (m .faults)) k
+        let q = fault-here 0 (word g) (many g) (bytes g) at h f placed-fault (omega (arith, k)) in
+        survey-fault g (q ∙ sym (m .faults)) k
 
     module _ (k : numberOf f ≡ 0) where
-      faults-behind : faultOf g ≡
-          firstOf (commandRows (bytes g) (commandsFrom (many g - nextAt (word g) at) 0 (word g) (many g) (nextAt (word g) at)))
+      faults-behind : let i = nextAt (word g) at in
+          faultOf g ≡ firstOf (commandRows (bytes g) (commandsFrom (many g - i) 0 (word g) (many g) i))
       faults-behind = m .faults ∙ fault-behind 0 (word g) (many g) (bytes g) at h f placed-fault k
 
       -- one that writes its words
@@ -116,7 +117,9 @@ module _ {g : Glyph} {t : Trail} {count at : ℕ} (m : Surveying g t count at) w
       counts-here : sizeOf g ≡ count +
           (countFor t (callOf (g .masks) 0 c) .words + countAlong (countFor t (callOf (g .masks) 0 c) .trail) behind)
       unfolding countAlong
-      counts-here = m .counts ∙ ap (λ (cs : List Asked). count + countAlong t cs) (calls-first (g .masks) (word g) 0 (many g) 0 h e)
+      counts-here =
+          m .counts ∙
+          ap (λ (cs : List Asked). count + countAlong t cs) (calls-first (g .masks) (word g) 0 (many g) 0 h e)
 
       counted-on : Surveying g (countFor t (callOf (g .masks) 0 c) .trail)
           (count + countFor t (callOf (g .masks) 0 c) .words) (nextAt (word g) at)
@@ -130,7 +133,8 @@ module _ {g : Glyph} {t : Trail} {count at : ℕ} (m : Surveying g t count at) w
   unfolding countAlong firstOr
   surveyed h =
       survey-fine g (m .faults ∙ ap firstOf (rows-none 0 (word g) (many g) (bytes g) at h))
-      (sym (m .counts ∙ ap (λ (cs : List Asked). count + countAlong t cs) (calls-none (g .masks) (word g) 0 (many g) 0 h) ∙
+      (sym (m .counts ∙
+      ap (λ (cs : List Asked). count + countAlong t cs) (calls-none (g .masks) (word g) 0 (many g) 0 h) ∙
       add-zero count))
 
 -- a command that is not drawn is passed

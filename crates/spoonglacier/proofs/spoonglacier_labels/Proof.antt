@@ -17,8 +17,9 @@ use Rattle.spoonglacier.proofs.spoonglacier_labels.Statement.{statement
 use Rattle.spoonglacier.proofs.spoonglacier_labels.Tie as tie
 
 -- the same scale and parameters, so the same answer
-alike : {x y : Fixed} {p q : HintParams} (cs : List ℤ) (ms : List ℕ) (ls out : List ℤ) (a : LabelAnswer) (left : List ℤ) →
-    x ≡ y → p ≡ q → Labelled (labelsOf (label x p cs ms ls) out) a left → Labelled (labelsOf (label y q cs ms ls) out) a left
+alike : {x y : Fixed} {p q : HintParams} (cs : List ℤ) (ms : List ℕ) (ls out : List ℤ) (a : LabelAnswer)
+    (left : List ℤ) → x ≡ y → p ≡ q → Labelled (labelsOf (label x p cs ms ls) out) a left →
+    Labelled (labelsOf (label y q cs ms ls) out) a left
 alike cs ms ls out a left e f w = rw (sym e, sym f) w
 
 fits : (s : tie.Start) → SFits w32 (s .args .scale)

@@ -22,7 +22,8 @@ abbrev μ-loop : tie.MeasureT-loop
 -- by the length at this place
 module _ (c : tie.After-size-at Inv-loop μ-loop) (b : Bool) (e : negative (c .size-at .result) ≡ b) where
   here : let l = c .before .before in
-      anyNegative (l .before .args .lengths .now) ≡ (b || anyNegative (drop (l .loop .i + 1) (l .before .args .lengths .now)))
+      let ls = l .before .args .lengths .now in
+      anyNegative ls ≡ (b || anyNegative (drop (l .loop .i + 1) ls))
   here =
       let l = c .before .before in
       let ls = l .before .args .lengths .now in
@@ -37,7 +38,8 @@ loop-again c = here (c .before) false (lt-leb 2147483648 _ (c .if1 .left))
 
 returns-2 : tie.Need-returns-2 Inv-loop μ-loop
 returns-2 c =
-    sym (c .before .loop .inv ∙ negative-none (c .before .before .args .lengths .now) (c .before .loop .i) (omega arith))
+    let l = c .before in
+    sym (l .loop .inv ∙ negative-none (l .before .args .lengths .now) (l .loop .i) (omega arith))
 
 pub any-negative-spec : {M : Type 1} → statement M
 any-negative-spec =

@@ -65,7 +65,8 @@ module _ (c : tie.Else2) where
 
 measure-requires : tie.Need-measure-requires
 measure-requires c κs =
-    (miscount (c .before .before .before), omega (arith, c .least .ensures, room-within (length (start (c .before) .args .out .now)) .1))
+    let n = room-within (length (start (c .before) .args .out .now)) .1 in
+    (miscount (c .before .before .before), omega (arith, c .least .ensures, n))
 
 -- glyphs and room are measured
 module _ (c : tie.After-code2) where
@@ -123,5 +124,6 @@ pub run-labels-spec : {M : Type 1} → statement M
 run-labels-spec =
     tie.close
     (tie.spec (λ c κs. search needs) returns (λ c κs. search needs) (λ c κs. search needs) returns-2
-    (λ c κs. search needs) measure-requires (λ c κs. search needs) returns-3 (λ c κs. opened (c .before .before .before .before) .1) fill-requires
+    (λ c κs. search needs) measure-requires (λ c κs. search needs) returns-3
+    (λ c κs. opened (c .before .before .before .before) .1) fill-requires
     (λ c. search needs) returns-4)

@@ -119,7 +119,8 @@ returns c =
     let l = lengths s in
     let k = ap numberOf (sym (fault s)) in
     let q : refuses (faultOf (here l)) ≡ true =
-    ap not (ne-eqb (numberOf (faultOf (here l))) 0 (λ z. c .before .if1 .taken (c .before .before .code .ensures ∙ sym k ∙ z))) in
+    ap not (ne-eqb (numberOf (faultOf (here l))) 0
+    (λ z. c .before .if1 .taken (c .before .before .code .ensures ∙ sym k ∙ z))) in
     c .in-glyph .ensures ∙ ap (inGlyph _) (fault s) ∙
     sym (faulty (turn l .loop .inv) (there l) (l .before .size-at .ensures .0) (l .size-at2 .ensures .0) q)
 
@@ -164,8 +165,9 @@ loop-again : tie.Need-loop-again Inv-loop μ-loop
 loop-again c =
     let s = seen (c .before) in
     let l = lengths s in
+    let n = l .before .size-at .ensures .0 in
     rw (c .with .ensures, size (c .before))
-    (counting (turn l .loop .inv) (there l) (l .before .size-at .ensures .0) (l .size-at2 .ensures .0) (fine (c .before))
+    (counting (turn l .loop .inv) (there l) n (l .size-at2 .ensures .0) (fine (c .before))
     (omega (arith, few (c .before), size (c .before))))
 
 returns-2 : tie.Need-returns-2 Inv-loop μ-loop

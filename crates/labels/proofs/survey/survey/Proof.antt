@@ -70,9 +70,9 @@ loop-again : tie.Need-loop-again Inv-loop μ-loop
 loop-again c =
     let e = c .before .before in
     let f = e .before .before in
-    let k = c .enum-told .given .1 in (
-      rw (moved f)
-          (passed-on (turn f .loop .inv .0) (there f) (read f k) (fault f k) (sym (e .before .code .ensures) ∙ e .if1 .left)),
+    let k = c .enum-told .given .1 in
+    let z = sym (e .before .code .ensures) ∙ e .if1 .left in (
+      rw (moved f) (passed-on (turn f .loop .inv .0) (there f) (read f k) (fault f k) z),
       turn f .loop .inv .1,
     )
 
