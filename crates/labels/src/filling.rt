@@ -3,11 +3,13 @@ use crate::counts::size_at;
 use crate::measure::FIXED_HEADER;
 use run::run_given;
 use zones::HintState;
+use zones::ZONE_NUMBERS;
 ghost use mathlib.Core.Path.{_≡_};
 ghost use mathlib.Core.List.{[], _∷_, map};
 ghost use Prim.Native.Nat.{_+_, _≤_, _<_};
 ghost use lib.IntN.{pos};
 ghost use lib.ListN.{length};
+ghost use Rattle.zones.specs.Numbers.{ListedZones};
 ghost use Rattle.pen.specs.Records.{written};
 ghost use Rattle.words.specs.Bytes.{placed};
 ghost use Rattle.labels.specs.Glyphs.{glyph, glyphsOf, recordsOf};
@@ -34,21 +36,23 @@ fn fill_glyph(
     masks: &[u8],
     words: &[i32],
     state: HintState,
+    zones: &[i32; ZONE_NUMBERS],
     out: &mut [i32],
     slot: usize,
     next: usize,
 ) -> usize
-    requires { ⌜ Settable (glyph (now words) (now masks)) slot next (length (now out)) ⌝ }
+    requires { ⌜ Settable (glyph (now words) (now masks)) slot next (length (now out)) ×
+        ListedZones state (now zones) ⌝ }
     ensures { λ r. ⌜ (r ≡ length (recordsOf state (glyph (now (words .entry)) (now (masks .entry))))) ×
         (now (out .exit) ≡ setAt state (glyph (now (words .entry)) (now (masks .entry))) slot next
         (now (out .entry))) ⌝ }
 {
-    let ran = run_given(masks, words, state, &mut out[next..]);
+    let ran = run_given(masks, words, state, zones, &mut out[next..]);
     put_two(out, slot, next, ran.words);
     ran.words
 }
 
-// Glyphs that pass all tests, into an output that has room for them.
+// Glyphs that pass all tests, into an output that has room for them. The zones are listed once.
 pub(crate) fn fill(
     commands: &[i32],
     masks: &[u8],
@@ -60,6 +64,8 @@ pub(crate) fn fill(
     ensures { λ _. ⌜ now (out .exit) ≡ written (labelWords (map (recordsOf state)
         (glyphsOf (now (lengths .entry)) (now (commands .entry)) (now (masks .entry))))) (now (out .entry)) ⌝ }
 {
+    let mut zones = [0i32; ZONE_NUMBERS];
+    state.list(&mut zones);
     put_two(out, 0, RESULT_VERSION, lengths.len() / 2);
     let mut next = FIXED_HEADER + lengths.len();
     let mut at = 0;
@@ -72,6 +78,7 @@ pub(crate) fn fill(
             &masks[byte..bytes_end],
             &commands[word..words_end],
             state,
+            &zones,
             out,
             FIXED_HEADER + at,
             next,

@@ -21,6 +21,7 @@ use zones::ZONE_NUMBERS;
 ghost use mathlib.Core.Path.{_≡_};
 ghost use Prim.Native.Nat.{_*_, _≤_, _<_};
 ghost use lib.ListN.{length};
+ghost use Rattle.zones.specs.Numbers.{ListedZones};
 ghost use Rattle.words.specs.Words.{rawAt, givenWord};
 ghost use Rattle.commands.specs.Commands.{readAt, commandsOf};
 ghost use Rattle.run.specs.Run.{callsOf, wantsMap, isClose, ranOf, Ended, Runnable, wordBy, ThereBy};
@@ -72,7 +73,7 @@ fn read_by(part: &[u8], words: &[i32], as_words: bool, n: usize, at: usize) -> R
 }
 
 // Runs `n` command words, the first of which is called word `first`. Their masks are bytes of the
-// script, from byte `from` on.
+// script, from byte `from` on. The zones of the state are lent as numbers.
 fn run_by(
     script: &[u8],
     part: &[u8],
@@ -82,16 +83,16 @@ fn run_by(
     n: usize,
     from: usize,
     state: HintState,
+    zones: &[i32; ZONE_NUMBERS],
     out: &mut [i32],
 ) -> Ran
     requires { ⌜ ThereBy as_words (now part) (now words) n ×
-        Runnable (now script) (wordBy as_words (now part) (now words)) first n from ⌝ }
+        (Runnable (now script) (wordBy as_words (now part) (now words)) first n from ×
+        ListedZones state (now zones)) ⌝ }
     ensures { λ r. ⌜ Ended (ranOf state (callsOf (now (script .entry)) from
         (commandsOf first (wordBy as_words (now (part .entry)) (now (words .entry))) n)) (now (out .entry))) r
         (now (out .exit)) ⌝ }
 {
-    let mut zones = [0i32; ZONE_NUMBERS];
-    state.list(&mut zones);
     let mut mask = [255u8; HINT_MASK_SIZE];
     let mut stems = [0i32; STEM_NUMBERS];
     let mut initial = [0i32; LINES];
@@ -117,7 +118,7 @@ fn run_by(
                     from,
                     marking,
                     state,
-                    &zones,
+                    zones,
                     &mut mask,
                     &mut stems,
                     &mut initial,
@@ -133,7 +134,7 @@ fn run_by(
                         &mut initial,
                         &mut tags,
                         state,
-                        &zones,
+                        zones,
                         &mask,
                         &mut stems,
                         &mut notes,
@@ -186,15 +187,36 @@ pub fn run(
         (callsOf (now (script .entry)) from (commandsOf first (rawAt (now (part .entry))) n)) (now (out .entry))) r
         (now (out .exit)) ⌝ }
 {
-    run_by(script, part, &[], false, first, n, from, state, out)
+    let mut zones = [0i32; ZONE_NUMBERS];
+    state.list(&mut zones);
+    run_by(script, part, &[], false, first, n, from, state, &zones, out)
 }
 
-// Runs all of some words, which are commands with the masks of some bytes.
-pub fn run_given(masks: &[u8], words: &[i32], state: HintState, out: &mut [i32]) -> Ran
-    requires { ⌜ Runnable (now masks) (givenWord (now words)) 0 (length (now words)) 0 ⌝ }
+// Runs all of some words, which are commands with the masks of some bytes. Zones that are listed
+// once serve any number of runs.
+pub fn run_given(
+    masks: &[u8],
+    words: &[i32],
+    state: HintState,
+    zones: &[i32; ZONE_NUMBERS],
+    out: &mut [i32],
+) -> Ran
+    requires { ⌜ Runnable (now masks) (givenWord (now words)) 0 (length (now words)) 0 ×
+        ListedZones state (now zones) ⌝ }
     ensures { λ r. ⌜ Ended (ranOf state (callsOf (now (masks .entry)) 0
         (commandsOf 0 (givenWord (now (words .entry))) (length (now (words .entry))))) (now (out .entry))) r
         (now (out .exit)) ⌝ }
 {
-    run_by(masks, masks, words, true, 0, words.len(), 0, state, out)
+    run_by(
+        masks,
+        masks,
+        words,
+        true,
+        0,
+        words.len(),
+        0,
+        state,
+        zones,
+        out,
+    )
 }

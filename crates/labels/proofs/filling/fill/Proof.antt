@@ -7,6 +7,7 @@ use lib.IntN.{ℤ}
 use lib.ListN.{length, take, drop}
 use borrow.Author.Needs.{needs}
 use borrow.Author.Tests.{leb-false}
+use Rattle.zones.specs.Numbers.{ListedZones}
 use Rattle.labels.specs.Glyphs.{Glyph, glyph, glyphsOf, recordsOf}
 use Rattle.labels.specs.Labels.{headerOf}
 use Rattle.labels.specs.Measured.{sizeOf, Settable, setAt}
@@ -18,15 +19,15 @@ use Rattle.labels.proofs.filling.fill.Statement.{statement}
 use Rattle.labels.proofs.filling.fill.Tie as tie
 
 abbrev Inv-loop : tie.InvT-loop
-Inv-loop commands masks lengths state out₀ next₀ at₀ word₀ byte₀ out next at word byte =
-    Filling lengths commands masks state out₀ next at word byte out
+Inv-loop commands masks lengths state out₀ zones next₀ at₀ word₀ byte₀ out next at word byte =
+    Filling lengths commands masks state out₀ next at word byte out × ListedZones state zones
 
 abbrev μ-loop : tie.MeasureT-loop
-μ-loop commands masks lengths state out₀ next₀ at₀ word₀ byte₀ out next at word byte = length lengths - at
+μ-loop commands masks lengths state out₀ zones next₀ at₀ word₀ byte₀ out next at word byte = length lengths - at
 
 put-two-requires : tie.Need-put-two-requires Inv-loop μ-loop
 put-two-requires c κs =
-    let s = c .before .before in
+    let s = c .before .before .before .before in
     let gs = glyphsOf (s .args .lengths .now) (s .args .commands .now) (s .args .masks .now) in
     let w = walk (s .args .lengths .now) (s .args .commands .now) (s .args .masks .now) (s .pre .counted) in
     let least = sum-least (headerOf (length gs)) (map sizeOf gs) in
@@ -34,9 +35,10 @@ put-two-requires c κs =
 
 loop-holds : tie.Need-loop-holds Inv-loop μ-loop
 loop-holds c =
-    let a = c .before .before .before .before .args in
-    filling (a .lengths .now) (a .commands .now) (a .masks .now) (a .state) (c .before .put-two .last .0)
-    (rw (c .before .put-two .kept .0) (c .before .before .before .before .pre))
+    let a = c .before .before .before .before .before .before .args in
+    let f = filling (a .lengths .now) (a .commands .now) (a .masks .now) (a .state) (c .before .put-two .last .0)
+    (rw (c .before .put-two .kept .0) (c .before .before .before .before .before .before .pre)) in
+    (f, c .before .before .before .list .ensures)
 
 -- at a glyph, whose two lengths are read
 module _ (c : tie.After-size-at2 Inv-loop μ-loop) where
@@ -44,7 +46,7 @@ module _ (c : tie.After-size-at2 Inv-loop μ-loop) where
   turn = c .before .before .before
 
   abbrev begin : tie.Start Inv-loop μ-loop
-  begin = turn .before .before .before .before .before
+  begin = turn .before .before .before .before .before .before .before
 
   there : turn .loop .at < length (begin .args .lengths .now)
   there = c .before .before .loop-test .taken
@@ -52,7 +54,7 @@ module _ (c : tie.After-size-at2 Inv-loop μ-loop) where
   inside : (turn .loop .word + c .before .size-at .result ≤ length (begin .args .commands .now)) ×
       (turn .loop .byte + c .size-at2 .result ≤ length (begin .args .masks .now))
   inside =
-      let w = turn .loop .inv .walks in
+      let w = turn .loop .inv .0 .walks in
       let n = c .before .size-at .ensures .0 in
       let b = c .size-at2 .ensures .0 in
       (words-there w there n b, bytes-there w there n b)
@@ -64,7 +66,7 @@ module _ (c : tie.After-size-at2 Inv-loop μ-loop) where
 
   ready : Settable here (2 + turn .loop .at) (turn .loop .next) (length (turn .loop .out))
   ready =
-      let m = turn .loop .inv in
+      let m = turn .loop .inv .0 in
       let n = c .before .size-at .ensures in
       settable m there (n .0) (c .size-at2 .ensures .0)
       (leb-false 2147483648 _ (sym (n .1 .1) ∙ first-positive (m .walks) there .0))
@@ -79,24 +81,24 @@ module _ (c : tie.After-size-at2 Inv-loop μ-loop) where
 add-words-end : tie.Need-add-words-end Inv-loop μ-loop
 add-words-end c =
     let t = c .before .before in
-    let s = t .before .before .before .before .before in
-    omega (arith, s .good .0, t .loop .inv .walks .ofWords, c .size-at .ensures .1 .0)
+    let s = t .before .before .before .before .before .before .before in
+    omega (arith, s .good .0, t .loop .inv .0 .walks .ofWords, c .size-at .ensures .1 .0)
 
 add-bytes-end : tie.Need-add-bytes-end Inv-loop μ-loop
-add-bytes-end c = omega (arith, begin c .good .1 .0, turn c .loop .inv .walks .ofBytes, c .size-at2 .ensures .1 .0)
+add-bytes-end c = omega (arith, begin c .good .1 .0, turn c .loop .inv .0 .walks .ofBytes, c .size-at2 .ensures .1 .0)
 
 fill-glyph-requires : tie.Need-fill-glyph-requires Inv-loop μ-loop
 fill-glyph-requires c κs =
-    let l = c .before .before .before in
-    rw (words-long l, bytes-long l) (ready l)
+    let l = c .before .before .before .before in
+    (rw (words-long l, bytes-long l) (ready l), turn l .loop .inv .1)
 
 -- the glyph is set
 module _ (c : tie.After-fill-glyph Inv-loop μ-loop) where
   abbrev lengths : tie.After-size-at2 Inv-loop μ-loop
-  lengths = c .before .before .before .before
+  lengths = c .before .before .before .before .before
 
   set : (c .fill-glyph .result ≡ length (recordsOf (begin lengths .args .state) (here lengths))) ×
-      (c .fill-glyph .last .1 .1 .1 .0 ≡
+      (c .fill-glyph .last .1 .1 .1 .1 .0 ≡
       setAt (begin lengths .args .state) (here lengths) (2 + turn lengths .loop .at) (turn lengths .loop .next)
       (turn lengths .loop .out))
   set = rw (words-long lengths, bytes-long lengths) at (c .fill-glyph .ensures)
@@ -110,18 +112,19 @@ loop-again : tie.Need-loop-again Inv-loop μ-loop
 loop-again c =
     let g = c .before in
     let l = lengths g in
-    rw (set g .1)
-    (onward-filling (turn l .loop .inv) (there l) (l .before .size-at .ensures .0) (l .size-at2 .ensures .0) (set g .0))
+    let n = l .before .size-at .ensures .0 in
+    let b = l .size-at2 .ensures .0 in
+    (rw (set g .1) (onward-filling (turn l .loop .inv .0) (there l) n b (set g .0)), turn l .loop .inv .1)
 
 same-length : tie.Need-same-length Inv-loop μ-loop
-same-length c = c .before .loop .inv .same ∙ c .before .before .before .put-two .kept .0
+same-length c = c .before .loop .inv .0 .same ∙ c .before .before .before .put-two .kept .0
 
 returns : tie.Need-returns Inv-loop μ-loop
 returns c =
     let p = c .before .before .before in
-    let s = p .before .before .before in
+    let s = p .before .before .before .before .before in
     let a = s .args in
-    filled (c .before .loop .inv) (omega arith) ∙
+    filled (c .before .loop .inv .0) (omega arith) ∙
     ap (λ (l : List ℤ). laidFrom 2 (2 + length (a .lengths .now))
     (map (recordsOf (a .state)) (glyphsOf (a .lengths .now) (a .commands .now) (a .masks .now))) l) (p .put-two .ensures) ∙
     laid-result (a .lengths .now) (a .commands .now) (a .masks .now) (a .state) (a .out .now) (s .pre)
@@ -129,9 +132,9 @@ returns c =
 pub fill-spec : {M : Type 1} → statement M
 fill-spec =
     tie.close
-    (tie.spec Inv-loop μ-loop put-two-requires (λ c. search needs) loop-holds (λ c κs. c .loop-test .taken)
+    (tie.spec Inv-loop μ-loop (λ c κs. search needs) put-two-requires (λ c. search needs) loop-holds (λ c κs. c .loop-test .taken)
     add-words-end (λ c. search needs)
-    (λ c κs. both-there (c .before .before .loop .inv .walks) (c .before .loop-test .taken)) add-bytes-end
+    (λ c κs. both-there (c .before .before .loop .inv .0 .walks) (c .before .loop-test .taken)) add-bytes-end
     (λ c. omega arith) (λ c. omega arith) (λ c. inside c .1) (λ c. search needs) (λ c. omega arith) (λ c. omega arith)
     (λ c. inside (c .before) .0) (λ c. search needs) fill-glyph-requires add-next-2 (λ c. search needs)
     (λ c. omega arith) loop-again same-length returns)

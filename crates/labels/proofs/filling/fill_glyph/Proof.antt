@@ -31,29 +31,31 @@ module _ (c : tie.After-run-given) where
   next = begin .args .next
 
   ran : (c .run-given .result .words ≡ length (recordsOf (begin .args .state) given)) ×
-      (putMid next (length out - next) out (c .run-given .last .1 .1 .1 .0) ≡
+      (putMid next (length out - next) out (c .run-given .last .1 .1 .1 .1 .0) ≡
       placed out next (recordsOf (begin .args .state) given))
   ran =
-      let r = ran-whole (begin .args .state) given out next (begin .pre .fits)
+      let r = ran-whole (begin .args .state) given out next (begin .pre .0 .fits)
       (rw (lent out next) at (c .run-given .ensures)) in
       (r .0, back next out _ ∙ r .1)
 
 run-given-requires : tie.Need-run-given-requires
 unfolding faultOf
 run-given-requires c κs =
-    let s = c .before .before in
-    record {
-      short = s .pre .short;
-      start = omega arith;
-      bytes = length (s .args .masks .now);
-      inside = omega arith;
-      faultless = s .pre .faultless;
-    }
+    let s = c .before .before in (
+      record {
+        short = s .pre .0 .short;
+        start = omega arith;
+        bytes = length (s .args .masks .now);
+        inside = omega arith;
+        faultless = s .pre .0 .faultless;
+      },
+      s .pre .1,
+    )
 
 put-two-requires : tie.Need-put-two-requires
 put-two-requires c κs =
     let r = c .before .before in
-    let p = begin r .pre in
+    let p = begin r .pre .0 in
     let n = size-is (begin r .args .state) (given r) in
     let l = placed-length (out r) (next r) (recordsOf (begin r .args .state) (given r)) (omega (arith, n, p .fits)) in
     (omega (arith, ap length (ran r .1), l, p .before, p .fits), (omega (arith, p .word), omega (arith, ran r .0, n, p .word)))
@@ -63,8 +65,8 @@ same-length c =
     let t = c .before in
     let r = t .before .before .before in
     t .put-two .kept .0 ∙
-    same-len-mid (next r) (length (out r) - next r) (out r) (r .run-given .last .1 .1 .1 .0)
-    (r .run-given .kept .1 .1 .1 .0)
+    same-len-mid (next r) (length (out r) - next r) (out r) (r .run-given .last .1 .1 .1 .1 .0)
+    (r .run-given .kept .1 .1 .1 .1 .0)
 
 returns : tie.Need-returns
 returns c =
@@ -81,5 +83,5 @@ returns c =
 pub fill-glyph-spec : {M : Type 1} → statement M
 fill-glyph-spec =
     tie.close
-    (tie.spec (λ c. search needs) (λ c. omega (arith, c .before .pre .fits)) (λ c. omega (arith, c .before .pre .fits))
+    (tie.spec (λ c. search needs) (λ c. omega (arith, c .before .pre .0 .fits)) (λ c. omega (arith, c .before .pre .0 .fits))
     (λ c. search needs) run-given-requires put-two-requires same-length returns)

@@ -27,19 +27,19 @@ use Rattle.run.proofs.running.run_by.Statement.{statement}
 use Rattle.run.proofs.running.run_by.Tie as tie
 
 abbrev Inv-loop : tie.InvT-loop
-Inv-loop script part words as-words first n from state out₀ zones mask₀ stems₀ initial₀ map₀ tags₀ notes₀ sizes₀ pen₀
+Inv-loop script part words as-words first n from state zones out₀ mask₀ stems₀ initial₀ map₀ tags₀ notes₀ sizes₀ pen₀
     next₀ at₀ out mask stems initial map tags notes sizes pen next at =
     Running state script (wordBy as-words part words) first n from out₀ mask stems initial map tags sizes pen next at
     out × Serving state zones notes
 
 abbrev μ-loop : tie.MeasureT-loop
-μ-loop script part words as-words first n from state out₀ zones mask₀ stems₀ initial₀ map₀ tags₀ notes₀ sizes₀ pen₀
+μ-loop script part words as-words first n from state zones out₀ mask₀ stems₀ initial₀ map₀ tags₀ notes₀ sizes₀ pen₀
     next₀ at₀ out mask stems initial map tags notes sizes pen next at =
     2 * (n - at) + unready (sizes .valid)
 
 -- the arguments, from a turn's start
 abbrev begin : tie.At-loop Inv-loop μ-loop → tie.Start Inv-loop μ-loop
-begin l = l .before .before .before .before .before .before .before
+begin l = l .before .before .before .before .before
 
 -- what gives its words
 abbrev words-of : tie.At-loop Inv-loop μ-loop → ℕ → ℕ
@@ -47,7 +47,7 @@ words-of l = wordBy (begin l .args .as-words) (begin l .args .part .now) (begin 
 
 -- no output is longer than memory
 room : (l : tie.At-loop Inv-loop μ-loop) → length (begin l .args .out .now) * 4 < 9223372036854775808
-room l = omega (arith, begin l .good .1 .1 .1 .1 .1 .1 .1 .1 .0)
+room l = omega (arith, begin l .good .1 .1 .1 .1 .1 .1 .1 .1 .1 .0)
 
 -- the command that was read, and the word behind it
 module _ (c : tie.After-read-by Inv-loop μ-loop) where
@@ -114,12 +114,12 @@ module _ (c : tie.After-draw-by-lines Inv-loop μ-loop) where
 
 loop-holds : tie.Need-loop-holds Inv-loop μ-loop
 loop-holds c =
-    let s = c .before .before .before .before .before .before in
+    let s = c .before .before .before .before in
     let a = s .args in (
       rw (c .before .none .ensures, c .new .ensures)
-          (starts (a .state) (a .script .now) _ (a .first) (a .n) (a .from) (a .out .now) _ _ _ (s .pre .1)
+          (starts (a .state) (a .script .now) _ (a .first) (a .n) (a .from) (a .out .now) _ _ _ (s .pre .1 .0)
           (record { all = refl; named = refl }) refl),
-      (c .before .before .list .ensures, refl),
+      (s .pre .1 .1, refl),
     )
 
 read-by-requires : tie.Need-read-by-requires Inv-loop μ-loop
@@ -144,7 +144,7 @@ loop-again c =
 
 marked-requires : tie.Need-marked-requires Inv-loop μ-loop
 marked-requires c κs =
-    let m = c .before .before .before .before .before .before .before .before .before in
+    let m = c .before .before .before .before .before .before .before .before in
     let i = mark-turn m .loop .inv in (
       record {
         named = mask-there (i .0 .goes .sound) (m .before .before .before .loop-test .taken) (mark-is m);
@@ -156,13 +156,13 @@ marked-requires c κs =
 
 loop-less-2 : tie.Need-loop-less-2 Inv-loop μ-loop
 loop-less-2 c =
-    let m = c .before .before .before .before .before .before .before .before .before .before in
+    let m = c .before .before .before .before .before .before .before .before .before in
     let r = m .before .before in
     omega (arith, moved r, r .before .loop-test .taken, unready-one (c .marked .result .valid))
 
 loop-again-2 : tie.Need-loop-again-2 Inv-loop μ-loop
 loop-again-2 c =
-    let m = c .before .before .before .before .before .before .before .before .before .before in
+    let m = c .before .before .before .before .before .before .before .before .before in
     let r = m .before .before in
     let i = mark-turn m .loop .inv in (
       rw (moved r)
@@ -173,18 +173,18 @@ loop-again-2 c =
 
 ready-requires : tie.Need-ready-requires Inv-loop μ-loop
 ready-requires c κs =
-    let i = draw-turn (c .before .before .before .before .before .before .before .before) .loop .inv in
+    let i = draw-turn (c .before .before .before .before .before .before .before) .loop .inv in
     (mappable _ _ _ _ _ _ _ _ _ _ _ _ _ _ _ _ _ (i .0), i .1)
 
 -- where a map is made, it was wanted
 module _ (c : tie.After-ready Inv-loop μ-loop) where
   abbrev for : tie.After-wants-map Inv-loop μ-loop
-  for = c .before .before .before .before .before .before .before .before .before
+  for = c .before .before .before .before .before .before .before .before
 
   want : (draw-turn for .loop .sizes .valid ≡ false) × (hasPoint (path for) ≡ true)
   want =
       wanted (draw-turn for .loop .sizes .valid) (path for)
-      (sym (for .wants-map .ensures) ∙ c .before .before .before .before .before .before .before .before .if2 .taken)
+      (sym (for .wants-map .ensures) ∙ c .before .before .before .before .before .before .before .if2 .taken)
 
 loop-less-3 : tie.Need-loop-less-3 Inv-loop μ-loop
 loop-less-3 c = omega (arith, ap unready (c .ready .ensures .0 .valid), ap unready (want c .0))
@@ -213,11 +213,11 @@ draw-by-lines-requires c κs =
     let k = draw-turn (c .before .before .before .before) .loop .inv .0 .kept .map in
     (k .fits, λ e. k .order)
 
-add-t53 : tie.Need-add-t53 Inv-loop μ-loop
-add-t53 c =
+add-t49 : tie.Need-add-t49 Inv-loop μ-loop
+add-t49 c =
     let d = c .before .before .before in
     let l = call-turn d in
-    omega (arith, begin l .pre .1 .start, begin l .pre .1 .short, draw-read (asked d) .before .loop-test .taken)
+    omega (arith, begin l .pre .1 .0 .start, begin l .pre .1 .0 .short, draw-read (asked d) .before .loop-test .taken)
 
 returns : tie.Need-returns Inv-loop μ-loop
 returns c =
@@ -276,10 +276,10 @@ returns-2 c = turn-done (c .before .loop .inv .0 .goes) (omega arith)
 pub run-by-spec : {M : Type 1} → statement M
 run-by-spec =
     tie.close
-    (tie.spec Inv-loop μ-loop (λ c κs. search needs) (λ c κs. search needs) (λ c κs. search needs) loop-holds
+    (tie.spec Inv-loop μ-loop (λ c κs. search needs) (λ c κs. search needs) loop-holds
     read-by-requires
     (λ c. search needs) (λ c κs. search needs) loop-less loop-again marked-requires loop-less-2 loop-again-2
     (λ c. search needs) (λ c κs. search needs) ready-requires loop-less-3 loop-again-3 mul-draw-by-lines
     within within (λ c. search needs) draw-by-lines-requires (λ c. search needs)
-    (λ c. search needs) add-t53 (λ c. same-out (c .before .before .before)) returns add-next loop-less-4 loop-again-4
+    (λ c. search needs) add-t49 (λ c. same-out (c .before .before .before)) returns add-next loop-less-4 loop-again-4
     (λ c. c .before .loop .inv .0 .goes .stands .along .same) returns-2)
