@@ -7,7 +7,7 @@ from pathlib import Path
 from types import ModuleType
 
 from .tables import (
-    calls, edges, edges_laws, figures, maps, marked, scripts, scripts_again, writer, writer_laws
+    calls, edges, edges_laws, figures, labels, labels_laws, maps, marked, scripts, scripts_again, writer, writer_laws
 )
 from .tables.form import Disagreement, file_of
 
@@ -34,6 +34,7 @@ STORED = [
     Stored(scripts, "test_scripts", "data/scripts.bin"),
     Stored(writer, "test_writer", "data/writer.bin"),
     Stored(edges, "test_edges", "data/edges.bin"),
+    Stored(labels, "test_labels", "data/labels.bin"),
 ]
 # The files whose scripts a crate writes again, in the order of its lines on them.
 SCRIPTS_CRATE, SCRIPTS_FILES = ROOT / "crates" / "test_scripts", ["data/scripts.bin", "data/sample.bin"]
@@ -47,6 +48,7 @@ HELD_TO = {
     "figures that 01 marks, and its whole case": marked,
     "what 02 says of scripts that are written and read back": writer_laws,
     "what 01 and 02 say of edges that are listed": edges_laws,
+    "what 02 says of label runs": labels_laws,
 }
 
 

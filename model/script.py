@@ -66,13 +66,12 @@ def check_params(words):
     refuse_if(words[PARAM_COUNT] != LEAST_PARAMS + 2 * pairs, BAD_SCRIPT, PARAM_COUNT)
 
 
-def commands_in(script, words):
-    """The place, the kind and the operands of each command; the bytes themselves of a mask."""
-    commands, at, end = [], words[COMMANDS], words[MASKS]
-    mask_bytes = script[4 * end : 4 * end + words[MASK_COUNT]]
-    while at < end:
+def commands_of(words, first, mask_bytes):
+    """The place, the kind and the operands of each command from a word on; the bytes themselves of a mask."""
+    commands, at = [], first
+    while at < len(words):
         kind = words[at]
-        refuse_if(kind not in OPERANDS or at + 1 + OPERANDS[kind] > end, BAD_COMMAND, at)
+        refuse_if(kind not in OPERANDS or at + 1 + OPERANDS[kind] > len(words), BAD_COMMAND, at)
         operands = words[at + 1 : at + 1 + OPERANDS[kind]]
         if kind in (HINT_MASK, COUNTER_MASK):
             start, length = operands
@@ -81,6 +80,12 @@ def commands_in(script, words):
         commands.append((at, kind, operands))
         at += 1 + OPERANDS[kind]
     return commands
+
+
+def commands_in(script, words):
+    """Those of a script."""
+    end = words[MASKS]
+    return commands_of(words[:end], words[COMMANDS], script[4 * end : 4 * end + words[MASK_COUNT]])
 
 
 # The run.

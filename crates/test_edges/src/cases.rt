@@ -4,7 +4,7 @@ use crate::judging::judged;
 use crate::records::LENT_WORDS;
 use crate::records::judged_records;
 use crate::row;
-use io::read_full;
+use test_tables::read_bytes;
 use words::natural;
 use words::read_words;
 ghost use Prim.Native.Nat.{_+_, _*_, _/_, _≤_};
@@ -37,11 +37,6 @@ pub(crate) fn case(cases: Cases, file: i32) -> Seen {
     }
     let mut case = [0u8; HELD_CASE];
     read_sized(cases, file, &head, &mut case)
-}
-
-// Reads bytes, and says whether they are all there.
-fn read_bytes(file: i32, bytes: &mut [u8]) -> bool {
-    read_full(file, bytes) == bytes.len()
 }
 
 // Reads as many bytes as the case has.

@@ -3,12 +3,12 @@ use crate::cases::Cases;
 use crate::cases::Seen;
 use crate::cases::case;
 use crate::judging::Verdict;
-use io::print_decimal;
-use io::read_full;
-use io::write_all;
-use libc::STDOUT_FILENO;
 use std::num::wrapping_add_usize;
-use words::natural;
+use test_tables::case_count;
+use test_tables::case_cut;
+use test_tables::case_differs;
+use test_tables::case_differs_at;
+use test_tables::end_of_cases;
 
 // How many cases were run, and how many of them differ.
 struct Tally {
@@ -41,23 +41,13 @@ pub(crate) fn tables(file: i32) {
     table(Cases::Words, b"two faults", file);
     table(Cases::Words, b"drawn", file);
     table(Cases::Records, b"of twelve", file);
-    end(file);
+    end_of_cases(file);
 }
 
 // Runs as many cases as the next word says, and says how many differ.
 fn table(cases: Cases, name: &[u8], file: i32) {
-    let mut word = [0u8; 4];
-    read_full(file, &mut word);
-    let tally = run(cases, file, natural(&word, 0));
+    let tally = run(cases, file, case_count(file));
     test_tables::counts(name, tally.run, tally.differ);
-}
-
-// Says so where the file does not end here.
-fn end(file: i32) {
-    let mut byte = [0u8; 1];
-    if read_full(file, &mut byte) != 0 {
-        write_all(STDOUT_FILENO, b"the file goes on after its last case\n");
-    }
 }
 
 // Runs so many cases, or those before the first that cannot be read.
@@ -66,8 +56,7 @@ fn run(cases: Cases, file: i32, count: usize) -> Tally {
     for i in 0..count {
         let seen = case(cases, file);
         let Seen::Run(verdict) = seen else {
-            of_case(i);
-            write_all(STDOUT_FILENO, b"cut off or too large\n");
+            case_cut(i);
             return tally;
         };
         if tally.differ < 10 {
@@ -78,26 +67,11 @@ fn run(cases: Cases, file: i32, count: usize) -> Tally {
     tally
 }
 
-// A case, counted from 0.
-fn of_case(i: usize) {
-    write_all(STDOUT_FILENO, b"case ");
-    print_decimal(STDOUT_FILENO, i as u64);
-    write_all(STDOUT_FILENO, b": ");
-}
-
 // Where a case first differs, if it does.
 fn difference(i: usize, verdict: Verdict) {
     match verdict {
         Verdict::Same => {}
-        Verdict::Answer => {
-            of_case(i);
-            write_all(STDOUT_FILENO, b"the answer differs\n");
-        }
-        Verdict::Word(at) => {
-            of_case(i);
-            write_all(STDOUT_FILENO, b"word ");
-            print_decimal(STDOUT_FILENO, at as u64);
-            write_all(STDOUT_FILENO, b" differs\n");
-        }
+        Verdict::Answer => case_differs(i, b"the answer"),
+        Verdict::Word(at) => case_differs_at(i, b"word ", at),
     }
 }

@@ -5,11 +5,14 @@ use crate::cases::Seen;
 use crate::cases::case;
 use crate::judging::Verdict;
 use io::print_decimal;
-use io::read_full;
 use io::write_all;
 use libc::STDOUT_FILENO;
 use std::num::wrapping_add_usize;
-use words::natural;
+use test_tables::case_count;
+use test_tables::case_cut;
+use test_tables::case_differs;
+use test_tables::case_differs_at;
+use test_tables::end_of_cases;
 
 // How many cases of a table were run, how many of them differ, how many are marked, how many have
 // each number; and what becomes of scripts, those of the tables before it too.
@@ -72,7 +75,7 @@ pub(crate) fn scripts(file: i32) {
     tally = table(b"glyphs", file, tally.again);
     tally = table(b"damaged copies", file, tally.again);
     tally = table(b"the first family blue", file, tally.again);
-    end(file);
+    end_of_cases(file);
     let again = tally.again;
     again.say();
 }
@@ -80,7 +83,7 @@ pub(crate) fn scripts(file: i32) {
 // The sample, which is one table.
 pub(crate) fn sample(file: i32) {
     let tally = table(b"sample", file, AgainTally::none());
-    end(file);
+    end_of_cases(file);
     totals(tally);
     let again = tally.again;
     again.say();
@@ -88,19 +91,9 @@ pub(crate) fn sample(file: i32) {
 
 // Runs as many cases as the next word says, and says how many differ.
 fn table(name: &[u8], file: i32, again: AgainTally) -> Tally {
-    let mut word = [0u8; 4];
-    read_full(file, &mut word);
-    let tally = run(file, natural(&word, 0), again);
+    let tally = run(file, case_count(file), again);
     test_tables::counts(name, tally.run, tally.differ);
     tally
-}
-
-// Says so where the file does not end here.
-fn end(file: i32) {
-    let mut byte = [0u8; 1];
-    if read_full(file, &mut byte) != 0 {
-        write_all(STDOUT_FILENO, b"the file goes on after its last case\n");
-    }
 }
 
 // Runs so many cases, or those before the first that cannot be read.
@@ -109,8 +102,7 @@ fn run(file: i32, count: usize, again: AgainTally) -> Tally {
     for i in 0..count {
         let seen = case(file);
         let Seen::Run(judged) = seen else {
-            of_case(i);
-            write_all(STDOUT_FILENO, b"cut off or too large\n");
+            case_cut(i);
             return tally;
         };
         let verdict = judged.verdict;
@@ -122,31 +114,13 @@ fn run(file: i32, count: usize, again: AgainTally) -> Tally {
     tally
 }
 
-// A case, counted from 0.
-fn of_case(i: usize) {
-    write_all(STDOUT_FILENO, b"case ");
-    print_decimal(STDOUT_FILENO, i as u64);
-    write_all(STDOUT_FILENO, b": ");
-}
-
 // Where a case first differs, if it does.
 fn difference(i: usize, verdict: Verdict) {
     match verdict {
         Verdict::Same => {}
-        Verdict::Number => {
-            of_case(i);
-            write_all(STDOUT_FILENO, b"number differs\n");
-        }
-        Verdict::Place => {
-            of_case(i);
-            write_all(STDOUT_FILENO, b"place differs\n");
-        }
-        Verdict::Word(at) => {
-            of_case(i);
-            write_all(STDOUT_FILENO, b"word ");
-            print_decimal(STDOUT_FILENO, at as u64);
-            write_all(STDOUT_FILENO, b" differs\n");
-        }
+        Verdict::Number => case_differs(i, b"number"),
+        Verdict::Place => case_differs(i, b"place"),
+        Verdict::Word(at) => case_differs_at(i, b"word ", at),
     }
 }
 

@@ -1,11 +1,18 @@
-// Rows of numbers as the programs of figures read them, what they say of a table of rows, and where
+// Rows of numbers and cases as the programs of figures read them, what they say of a table, and where
 // words differ from those that are stored.
+mod cases;
 mod differing;
 mod given;
 mod input;
 mod report;
 mod row;
 
+pub use cases::case_count;
+pub use cases::case_cut;
+pub use cases::case_differs;
+pub use cases::case_differs_at;
+pub use cases::end_of_cases;
+pub use cases::read_bytes;
 pub use differing::first_word;
 pub use given::after_pairs;
 pub use given::kind_number;

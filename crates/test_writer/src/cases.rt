@@ -1,6 +1,5 @@
 // What the cases of writing and of reading share.
 use crate::judging::Verdict;
-use io::read_full;
 
 // The bytes of the nine words that start a case.
 pub(crate) const HEAD: usize = 36;
@@ -14,9 +13,4 @@ pub(crate) enum Seen {
     // The file ends within the case, or the case is too large.
     Cut,
     Run(Verdict),
-}
-
-// Reads bytes, and says whether they are all there.
-pub(crate) fn read_bytes(file: i32, bytes: &mut [u8]) -> bool {
-    read_full(file, bytes) == bytes.len()
 }

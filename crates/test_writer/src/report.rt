@@ -1,16 +1,16 @@
 // What the program says.
 use crate::cases::HEAD;
 use crate::cases::Seen;
-use crate::cases::read_bytes;
 use crate::judging::Verdict;
 use crate::read_cases::read_case;
 use crate::write_cases::write_case;
-use io::print_decimal;
-use io::read_full;
-use io::write_all;
-use libc::STDOUT_FILENO;
 use std::num::wrapping_add_usize;
-use words::natural;
+use test_tables::case_count;
+use test_tables::case_cut;
+use test_tables::case_differs;
+use test_tables::case_differs_at;
+use test_tables::end_of_cases;
+use test_tables::read_bytes;
 
 // What the cases of a table are.
 enum Cases {
@@ -40,7 +40,7 @@ impl Tally {
 pub(crate) fn tables(file: i32) {
     written_tables(file);
     read_tables(file);
-    end(file);
+    end_of_cases(file);
 }
 
 fn written_tables(file: i32) {
@@ -65,18 +65,8 @@ fn read_tables(file: i32) {
 
 // Runs as many cases as the next word says, and says how many differ.
 fn table(cases: Cases, name: &[u8], file: i32) {
-    let mut word = [0u8; 4];
-    read_full(file, &mut word);
-    let tally = run(cases, file, natural(&word, 0));
+    let tally = run(cases, file, case_count(file));
     test_tables::counts(name, tally.run, tally.differ);
-}
-
-// Says so where the file does not end here.
-fn end(file: i32) {
-    let mut byte = [0u8; 1];
-    if read_full(file, &mut byte) != 0 {
-        write_all(STDOUT_FILENO, b"the file goes on after its last case\n");
-    }
 }
 
 // Runs so many cases, or those before the first that cannot be read.
@@ -85,8 +75,7 @@ fn run(cases: Cases, file: i32, count: usize) -> Tally {
     for i in 0..count {
         let seen = case(cases, file);
         let Seen::Run(verdict) = seen else {
-            of_case(i);
-            write_all(STDOUT_FILENO, b"cut off or too large\n");
+            case_cut(i);
             return tally;
         };
         if tally.differ < 10 {
@@ -108,38 +97,18 @@ fn case(cases: Cases, file: i32) -> Seen {
     }
 }
 
-// A case, counted from 0.
-fn of_case(i: usize) {
-    write_all(STDOUT_FILENO, b"case ");
-    print_decimal(STDOUT_FILENO, i as u64);
-    write_all(STDOUT_FILENO, b": ");
-}
-
 // Where a case first differs, if it does.
 fn difference(i: usize, verdict: Verdict) {
     match verdict {
         Verdict::Same => {}
-        Verdict::Number => differs(i, b"number"),
-        Verdict::Place => differs(i, b"place"),
-        Verdict::Written => differs(i, b"count of bytes written"),
-        Verdict::Commands => differs(i, b"count of command words"),
-        Verdict::Masks => differs(i, b"count of mask bytes"),
-        Verdict::Scale => differs(i, b"scale"),
-        Verdict::Params => differs(i, b"one of the parameters"),
-        Verdict::Word(at) => differs_at(i, b"word ", at),
-        Verdict::Byte(at) => differs_at(i, b"byte ", at),
+        Verdict::Number => case_differs(i, b"number"),
+        Verdict::Place => case_differs(i, b"place"),
+        Verdict::Written => case_differs(i, b"count of bytes written"),
+        Verdict::Commands => case_differs(i, b"count of command words"),
+        Verdict::Masks => case_differs(i, b"count of mask bytes"),
+        Verdict::Scale => case_differs(i, b"scale"),
+        Verdict::Params => case_differs(i, b"one of the parameters"),
+        Verdict::Word(at) => case_differs_at(i, b"word ", at),
+        Verdict::Byte(at) => case_differs_at(i, b"byte ", at),
     }
-}
-
-fn differs(i: usize, what: &[u8]) {
-    of_case(i);
-    write_all(STDOUT_FILENO, what);
-    write_all(STDOUT_FILENO, b" differs\n");
-}
-
-fn differs_at(i: usize, what: &[u8], at: usize) {
-    of_case(i);
-    write_all(STDOUT_FILENO, what);
-    print_decimal(STDOUT_FILENO, at as u64);
-    write_all(STDOUT_FILENO, b" differs\n");
 }

@@ -2,10 +2,10 @@
 use crate::cases::HELD_BYTES;
 use crate::cases::HELD_WORDS;
 use crate::cases::Seen;
-use crate::cases::read_bytes;
 use crate::judging::Verdict;
 use crate::judging::judged_writing;
 use crate::write_row;
+use test_tables::read_bytes;
 use words::natural;
 use words::read_words;
 ghost use Prim.Native.Nat.{_+_, _*_, _≤_};
