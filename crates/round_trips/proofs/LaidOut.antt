@@ -1,5 +1,5 @@
--- The layout of a script: the words and the mask bytes of one that holds so much, read from its bytes,
--- and what is written of one that the reader accepts. Assumes nothing.
+-- The layout of a script: its words and its mask bytes, by what it holds, as they are read from its
+-- bytes; and what is written of one that the reader accepts. Assumes nothing.
 use mathlib.Core.Path.{_≡_, refl, sym, ap, _∙_}
 use mathlib.Core.Bool.{Bool, true, false, _&&_, true≢false}
 use mathlib.Core.List.{List, [], _∷_, _++_, map}
@@ -7,8 +7,7 @@ use Prim.Native.Nat.{ℕ, _+_, _-_, _*_, _/_, _%_, _≤_, _<_, _^_}
 use native.Mathlib.Omega.{arith}
 use lib.Dec.{eqb}
 use lib.IntN.{pos}
-use lib.ListN.{length, take, drop, replicate, length-append, length-replicate, length-drop}
-use lib.ListN.{take-append-drop}
+use lib.ListN.{length, take, drop, replicate, length-append, length-replicate, length-drop, take-append-drop}
 use lib.Seq.{drop-at, drop-drop}
 use borrow.Author.Tests.{eqb-true, not-false}
 use Rattle.fixed.specs.declared.Fixed.{Fixed}
