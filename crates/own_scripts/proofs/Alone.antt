@@ -46,7 +46,7 @@ use Rattle.own_scripts.specs.OwnScripts.{Alone, behind, FaultAlone}
 use Rattle.own_scripts.proofs.Elsewhere.{commandBehind, askedBehind, commands-alike, faults-behind, calls-alike}
 use Rattle.own_scripts.proofs.Elsewhere.{words-behind}
 use Rattle.own_scripts.proofs.SameZones.{same-state, state-scale}
-use Rattle.own_scripts.proofs.NotRefused.{Opened, open-fine, fine-open, fine-glyph}
+use Rattle.own_scripts.proofs.NotRefused.{Opened, opened, opens, faultless}
 use Rattle.own_scripts.proofs.OwnBytes.{glyph-bytes, own-bytes}
 use Rattle.own_scripts.proofs.InResult.{offset-there, words-there, records-there, past-there}
 
@@ -98,7 +98,7 @@ module _ (scale : Fixed) (p : HintParams) (g : Glyph) (held : Held scale) (param
       commands-alike w (givenWord (g .words)) (length (g .words)) words-alike at
 
   -- its first fault is the glyph's
-  pub fault-own : firstOf (checkRows s) ≡ behind at (faultOf g)
+  fault-own : firstOf (checkRows s) ≡ behind at (faultOf g)
   unfolding faultOf
   fault-own =
       by-commands c held params holds ∙
@@ -154,7 +154,7 @@ module _ (scale : Fixed) (p : HintParams) (g : Glyph) (held : Held scale) (param
 pub fault-alone : (scale : Fixed) (p : HintParams) (g : Glyph) → Held scale → HeldParams p →
     firstOr (Written 0) (openRows scale p) ≡ Written 0 → length (ownScript scale p g) ≤ mostBytes → FaultAlone scale p g
 fault-alone scale p g held params o short =
-    rw (own-is scale p g) (fault-own scale p g held params (open-fine scale p o) short)
+    rw (own-is scale p g) (fault-own scale p g held params (opened scale p o) short)
 
 -- a glyph of a label that is not refused
 module _ (l : Label) (out : List ℤ) (k : ℕ) (held : HeldLabel l) (e : labelRefuses (labelsOf l out .answer) ≡ false)
@@ -190,8 +190,8 @@ module _ (l : Label) (out : List ℤ) (k : ℕ) (held : HeldLabel l) (e : labelR
   pub alone : Alone l out k
   alone =
       let g = glyphAt l k in
-      let fine = fine-glyph l out e (glyph [] []) k h in
-      let o = fine-open l out e in
+      let fine = faultless l out e (glyph [] []) k h in
+      let o = opened (l .scale) (l .params) (opens l out e) in
       record {
         bytes =
             own-bytes (l .scale) (l .params) g

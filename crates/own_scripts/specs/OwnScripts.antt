@@ -36,7 +36,8 @@ ownScript scale p g = bytesOf (ownWords scale p g) ++ paddedBytes (g .masks)
 abbrev pub mostBytes : ℕ
 mostBytes = 65536
 
--- ---- what arguments hold: numbers of 32 bits, bytes
+-- ---- what arguments hold
+-- numbers of 32 bits, and bytes; of a command word the 32 bits are read, whatever it is
 pub record HeldLabel (l : Label) : Type 0 where
   pub scale : Held (l .scale)
   pub params : HeldParams (l .params)

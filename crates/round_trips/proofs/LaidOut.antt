@@ -1,5 +1,5 @@
--- The layout of a script: the words and the mask bytes of one that holds so much, read from its bytes,
--- and what is written of one that the reader accepts. Assumes nothing.
+-- The layout of a script: its words and its mask bytes, by what it holds, as they are read from its
+-- bytes; and what is written of one that the reader accepts. Assumes nothing.
 use mathlib.Core.Path.{_≡_, refl, sym, ap, _∙_}
 use mathlib.Core.Bool.{Bool, true, false, _&&_, true≢false}
 use mathlib.Core.List.{List, [], _∷_, _++_, map}
@@ -7,7 +7,7 @@ use Prim.Native.Nat.{ℕ, _+_, _-_, _*_, _/_, _%_, _≤_, _<_, _^_}
 use native.Mathlib.Omega.{arith}
 use lib.Dec.{eqb}
 use lib.IntN.{pos}
-use lib.ListN.{length, take, drop, replicate, length-append, length-drop, take-append-drop}
+use lib.ListN.{length, take, drop, replicate, length-append, length-replicate, length-drop, take-append-drop}
 use lib.Seq.{drop-at, drop-drop}
 use borrow.Author.Tests.{eqb-true, not-false}
 use Rattle.fixed.specs.declared.Fixed.{Fixed}
@@ -33,7 +33,7 @@ use Rattle.writer.specs.ToWrite.{paddedBytes, scriptFor}
 use Rattle.writer.specs.Refusals.{FineParams}
 use Rattle.writer.proofs.Cutting.{joined-pieces}
 use Rattle.writer.proofs.Laying.{signed-bits}
-use Rattle.writer.proofs.Sizes.{padded-length, script-length}
+use Rattle.writer.proofs.Sizes.{script-length}
 use Rattle.writer.proofs.Answering.{Unrefused}
 use Rattle.readback.specs.ReadBack.{givenIn}
 use Rattle.readback.proofs.ReadRooms.{masks-length}
@@ -84,14 +84,17 @@ unfolding wordsWith
 words-many c = omega (arith, length-append (paramWords (c .params)) (c .commands))
 
 pub bytes-many : (c : Contents) → length (scriptWith c) ≡ 4 * (wordCount c + padded (length (c .masks)))
-unfolding scriptWith
+unfolding scriptWith paddedBytes
 bytes-many c =
+    let n = length (c .masks) in
+    let none : ℕ = 0 in
     omega (
       arith,
-      length-append (bytesOf (wordsWith c)) (paddedBytes (c .masks)),
+      length-append (bytesOf (wordsWith c)) (c .masks ++ zerosBehind n),
+      length-append (c .masks) (zerosBehind n),
+      length-replicate (4 * padded n - n) none,
       bytes-length (wordsWith c),
       words-many c,
-      padded-length (c .masks),
     )
 
 -- the words of the header, and where the others stand

@@ -1,4 +1,4 @@
--- A script by what it holds passes the reader's tests of header and parameters, so that its commands
+-- A script, by what it holds, passes the reader's tests of header and parameters, so that its commands
 -- alone decide, and says its scale and its parameters. Assumes nothing.
 use mathlib.Core.Path.{_≡_, refl, ap, _∙_}
 use mathlib.Core.Bool.{true, false, not}

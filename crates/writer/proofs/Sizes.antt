@@ -25,7 +25,7 @@ commands-length cs =
     (ap length (joined-pieces givenOperands (map bitsOf cs)) ∙ length-map cs bitsOf)
 
 -- mask bytes go up to a whole word
-pub padded-length : (bs : List ℕ) → length (paddedBytes bs) ≡ 4 * padded (length bs)
+padded-length : (bs : List ℕ) → length (paddedBytes bs) ≡ 4 * padded (length bs)
 unfolding paddedBytes
 padded-length bs =
     let none : ℕ = 0 in
