@@ -130,16 +130,7 @@ fn run_by(
             }
             Command::Draw(path) => {
                 if wants_map(path, sizes.valid) {
-                    sizes = sizes.ready(
-                        map,
-                        initial,
-                        tags,
-                        state,
-                        zones,
-                        &mask,
-                        &mut stems,
-                        notes,
-                    );
+                    sizes = sizes.ready(map, initial, tags, state, zones, &mask, &mut stems, notes);
                     continue;
                 }
                 let scale = state.scale;

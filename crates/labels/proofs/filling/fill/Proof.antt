@@ -20,13 +20,14 @@ use Rattle.labels.proofs.filling.fill.Statement.{statement}
 use Rattle.labels.proofs.filling.fill.Tie as tie
 
 abbrev Inv-loop : tie.InvT-loop
-Inv-loop commands masks lengths state out₀ zones initial₀ map₀ tags₀ notes₀ next₀ at₀ word₀ byte₀ out initial map tags notes
-    next at word byte =
-    Filling lengths commands masks state out₀ next at word byte out × (ListedZones state zones × Spare initial map tags notes)
+Inv-loop commands masks lengths state out₀ zones initial₀ map₀ tags₀ notes₀ next₀ at₀ word₀ byte₀ out initial map tags
+    notes next at word byte =
+    Filling lengths commands masks state out₀ next at word byte out ×
+    (ListedZones state zones × Spare initial map tags notes)
 
 abbrev μ-loop : tie.MeasureT-loop
-μ-loop commands masks lengths state out₀ zones initial₀ map₀ tags₀ notes₀ next₀ at₀ word₀ byte₀ out initial map tags notes
-    next at word byte =
+μ-loop commands masks lengths state out₀ zones initial₀ map₀ tags₀ notes₀ next₀ at₀ word₀ byte₀ out initial map tags
+    notes next at word byte =
     length lengths - at
 
 put-two-requires : tie.Need-put-two-requires Inv-loop μ-loop
@@ -41,8 +42,7 @@ loop-holds : tie.Need-loop-holds Inv-loop μ-loop
 loop-holds c =
     let a = c .before .before .before .before .before .before .args in
     let f = filling (a .lengths .now) (a .commands .now) (a .masks .now) (a .state) (c .before .put-two .last .0)
-    (rw (c .before .put-two .kept .0) (c .before .before .before .before .before .before .pre)) in
-    (
+    (rw (c .before .put-two .kept .0) (c .before .before .before .before .before .before .pre)) in (
       f,
       (
         c .before .before .before .list .ensures,
@@ -123,8 +123,7 @@ loop-again c =
     let g = c .before in
     let l = lengths g in
     let n = l .before .size-at .ensures .0 in
-    let b = l .size-at2 .ensures .0 in
-    (
+    let b = l .size-at2 .ensures .0 in (
       rw (set g .1) (onward-filling (turn l .loop .inv .0) (there l) n b (set g .0)),
       (turn l .loop .inv .1 .0, g .fill-glyph .ensures .1),
     )

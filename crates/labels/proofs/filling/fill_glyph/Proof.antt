@@ -62,8 +62,7 @@ put-two-requires c κs =
     let r = c .before .before in
     let p = begin r .pre .0 in
     let n = size-is (begin r .args .state) (given r) in
-    let l = placed-length (out r) (next r) (recordsOf (begin r .args .state) (given r)) (omega (arith, n, p .fits)) in
-    (
+    let l = placed-length (out r) (next r) (recordsOf (begin r .args .state) (given r)) (omega (arith, n, p .fits)) in (
       omega (arith, ap length (ran r .1), l, p .before, p .fits),
       (omega (arith, p .word), omega (arith, ran r .0, n, p .word)),
     )
@@ -90,4 +89,5 @@ returns c =
 pub fill-glyph-spec : {M : Type 1} → statement M
 fill-glyph-spec =
     tie.close
-    (tie.spec (λ c. search needs) inside inside (λ c. search needs) run-given-requires put-two-requires same-length returns)
+    (tie.spec (λ c. search needs) inside inside (λ c. search needs) run-given-requires put-two-requires same-length
+    returns)
