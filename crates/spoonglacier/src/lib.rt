@@ -93,7 +93,7 @@ pub extern "C" fn spoonglacier_labels(
         (now (out .entry))) r (now (out .exit)) (now (written .exit)) (now (glyph .exit)) (now (place .exit)) ⌝ }
 {
     let scale = Fixed { bits: scale };
-    let answer = labels::run_labels(
+    let labelled = labels::run_labels(
         scale,
         writer::params_from(params),
         commands,
@@ -101,8 +101,8 @@ pub extern "C" fn spoonglacier_labels(
         lengths,
         out,
     );
-    *written = answer.written();
-    *glyph = answer.glyph();
-    *place = answer.place();
-    answer.code()
+    *written = labelled.written();
+    *glyph = labelled.glyph();
+    *place = labelled.place();
+    labelled.code()
 }
