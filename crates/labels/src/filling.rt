@@ -2,6 +2,9 @@
 use crate::counts::size_at;
 use crate::measure::FIXED_HEADER;
 use run::run_given;
+use stems::LINES;
+use stems::MAX_HINTS;
+use stems::TAGS;
 use zones::HintState;
 use zones::ZONE_NUMBERS;
 ghost use mathlib.Core.Path.{_≡_};
@@ -12,6 +15,7 @@ ghost use lib.ListN.{length};
 ghost use Rattle.zones.specs.Numbers.{ListedZones};
 ghost use Rattle.pen.specs.Records.{written};
 ghost use Rattle.words.specs.Bytes.{placed};
+ghost use Rattle.run.specs.Kept.{Spare};
 ghost use Rattle.labels.specs.Glyphs.{glyph, glyphsOf, recordsOf};
 ghost use Rattle.labels.specs.Labels.{labelWords};
 ghost use Rattle.labels.specs.Measured.{Settable, setAt, Fillable};
@@ -37,22 +41,38 @@ fn fill_glyph(
     words: &[i32],
     state: HintState,
     zones: &[i32; ZONE_NUMBERS],
+    initial: &mut [i32; LINES],
+    map: &mut [i32; LINES],
+    tags: &mut [u8; TAGS],
+    notes: &mut [i32; MAX_HINTS],
     out: &mut [i32],
     slot: usize,
     next: usize,
 ) -> usize
     requires { ⌜ Settable (glyph (now words) (now masks)) slot next (length (now out)) ×
-        ListedZones state (now zones) ⌝ }
-    ensures { λ r. ⌜ (r ≡ length (recordsOf state (glyph (now (words .entry)) (now (masks .entry))))) ×
+        (ListedZones state (now zones) × Spare (now initial) (now map) (now tags) (now notes)) ⌝ }
+    ensures { λ r. ⌜ ((r ≡ length (recordsOf state (glyph (now (words .entry)) (now (masks .entry))))) ×
         (now (out .exit) ≡ setAt state (glyph (now (words .entry)) (now (masks .entry))) slot next
-        (now (out .entry))) ⌝ }
+        (now (out .entry)))) ×
+        Spare (now (initial .exit)) (now (map .exit)) (now (tags .exit)) (now (notes .exit)) ⌝ }
 {
-    let ran = run_given(masks, words, state, zones, &mut out[next..]);
+    let ran = run_given(
+        masks,
+        words,
+        state,
+        zones,
+        initial,
+        map,
+        tags,
+        notes,
+        &mut out[next..],
+    );
     put_two(out, slot, next, ran.words);
     ran.words
 }
 
-// Glyphs that pass all tests, into an output that has room for them. The zones are listed once.
+// Glyphs that pass all tests, into an output that has room for them. The zones are listed
+// once, and the lists for the maps serve one glyph behind the other.
 pub(crate) fn fill(
     commands: &[i32],
     masks: &[u8],
@@ -66,6 +86,10 @@ pub(crate) fn fill(
 {
     let mut zones = [0i32; ZONE_NUMBERS];
     state.list(&mut zones);
+    let mut initial = [0i32; LINES];
+    let mut map = [0i32; LINES];
+    let mut tags = [0u8; TAGS];
+    let mut notes = [0i32; MAX_HINTS];
     put_two(out, 0, RESULT_VERSION, lengths.len() / 2);
     let mut next = FIXED_HEADER + lengths.len();
     let mut at = 0;
@@ -79,6 +103,10 @@ pub(crate) fn fill(
             &commands[word..words_end],
             state,
             &zones,
+            &mut initial,
+            &mut map,
+            &mut tags,
+            &mut notes,
             out,
             FIXED_HEADER + at,
             next,

@@ -33,12 +33,14 @@ module _ (κs : Lfts 3) (a : ArgsD run.signature κs) (r r′ : ResD run.signatu
   run-unique p q =
       (ran (says-is (p .answer) ∙ sym (says-is (q .answer))) (p .words ∙ sym (q .words)), p .memory ∙ sym (q .memory))
 
-module _ (κs : Lfts 4) (a : ArgsD run-given.signature κs) (r r′ : ResD run-given.signature κs)
-    (x x′ : AtExit (endedOf 4 run-given-kinds.ps run-given-kinds.r) κs) where
+module _ (κs : Lfts 8) (a : ArgsD run-given.signature κs) (r r′ : ResD run-given.signature κs)
+    (x x′ : AtExit (endedOf 8 run-given-kinds.ps run-given-kinds.r) κs) where
   pub run-given-unique : run-given-reads.Post κs a r x → run-given-reads.Post κs a r′ x′ →
-      (r ≡ r′) × (now (x .1 .1 .1 .1 .0) ≡ now (x′ .1 .1 .1 .1 .0))
+      (r ≡ r′) × (now (x .1 .1 .1 .1 .1 .1 .1 .1 .0) ≡ now (x′ .1 .1 .1 .1 .1 .1 .1 .1 .0))
   run-given-unique p q =
-      (ran (says-is (p .answer) ∙ sym (says-is (q .answer))) (p .words ∙ sym (q .words)), p .memory ∙ sym (q .memory))
+      let e = p .0 in
+      let f = q .0 in
+      (ran (says-is (e .answer) ∙ sym (says-is (f .answer))) (e .words ∙ sym (f .words)), e .memory ∙ sym (f .memory))
 
 module _ (κs : Lfts 1) (a : ArgsD hints-after.signature κs) (r r′ : ResD hints-after.signature κs)
     (x x′ : AtExit (endedOf 1 hints-after-kinds.ps hints-after-kinds.r) κs) where

@@ -14,6 +14,7 @@ use Rattle.stems.specs.Lists.{Whole, stemsIn}
 use Rattle.zones.specs.declared.state.HintState.{HintState}
 use Rattle.hintmap.specs.declared.map.HintMap.{HintMap}
 use Rattle.hintmap.specs.Lent.{Rises, LinesOf}
+use Rattle.build.specs.Made.{NoteRoom}
 use Rattle.hints.specs.declared.hints.Hints.{Hints}
 use Rattle.hints.specs.Hints.{withStem, withMask, withInitial, countered, readyOf}
 use Rattle.hints.specs.Calls.{hintsOf}
@@ -75,6 +76,12 @@ pub record Countered (st : HintState) (m : HintMask) (z : Sizes) (is ns : List �
   pub build : Buildable z′ is′ ts′ ns′
   pub kept : (h : Hints) (bs : List ℕ) (ms : List ℤ) → Kept st h z bs ns is ms →
       Kept st (countered st m h) z′ bs ns′ is′ ms
+
+-- lists in which the maps of a run can be built, whatever they hold
+pub record Spare (is ms : List ℤ) (ts : List ℕ) (by : List ℤ) : Type 0 where
+  pub whole : Whole is ts
+  pub current : length ms ≡ 288
+  pub notes : NoteRoom by
 
 -- lists in which the current map can be built
 pub record Mappable (z : Sizes) (ms is : List ℤ) (ts : List ℕ) (ns : List ℤ) (bs : List ℕ) : Type 0 where

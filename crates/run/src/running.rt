@@ -24,6 +24,7 @@ ghost use lib.ListN.{length};
 ghost use Rattle.zones.specs.Numbers.{ListedZones};
 ghost use Rattle.words.specs.Words.{rawAt, givenWord};
 ghost use Rattle.commands.specs.Commands.{readAt, commandsOf};
+ghost use Rattle.run.specs.Kept.{Spare};
 ghost use Rattle.run.specs.Run.{callsOf, wantsMap, isClose, ranOf, Ended, Runnable, wordBy, ThereBy};
 
 // How a run ended: the answer, and the record words that were written.
@@ -84,21 +85,21 @@ fn run_by(
     from: usize,
     state: HintState,
     zones: &[i32; ZONE_NUMBERS],
+    initial: &mut [i32; LINES],
+    map: &mut [i32; LINES],
+    tags: &mut [u8; TAGS],
+    notes: &mut [i32; MAX_HINTS],
     out: &mut [i32],
 ) -> Ran
     requires { ⌜ ThereBy as_words (now part) (now words) n ×
         (Runnable (now script) (wordBy as_words (now part) (now words)) first n from ×
-        ListedZones state (now zones)) ⌝ }
+        (ListedZones state (now zones) × Spare (now initial) (now map) (now tags) (now notes))) ⌝ }
     ensures { λ r. ⌜ Ended (ranOf state (callsOf (now (script .entry)) from
         (commandsOf first (wordBy as_words (now (part .entry)) (now (words .entry))) n)) (now (out .entry))) r
-        (now (out .exit)) ⌝ }
+        (now (out .exit)) × Spare (now (initial .exit)) (now (map .exit)) (now (tags .exit)) (now (notes .exit)) ⌝ }
 {
     let mut mask = [255u8; HINT_MASK_SIZE];
     let mut stems = [0i32; STEM_NUMBERS];
-    let mut initial = [0i32; LINES];
-    let mut map = [0i32; LINES];
-    let mut tags = [0u8; TAGS];
-    let mut notes = [0i32; MAX_HINTS];
     let mut sizes = Sizes::none();
     let mut pen = Pen::new();
     let mut next = 0;
@@ -121,29 +122,20 @@ fn run_by(
                     zones,
                     &mut mask,
                     &mut stems,
-                    &mut initial,
-                    &mut tags,
-                    &mut notes,
+                    initial,
+                    tags,
+                    notes,
                 );
                 at = read.next;
             }
             Command::Draw(path) => {
                 if wants_map(path, sizes.valid) {
-                    sizes = sizes.ready(
-                        &mut map,
-                        &mut initial,
-                        &mut tags,
-                        state,
-                        zones,
-                        &mask,
-                        &mut stems,
-                        &mut notes,
-                    );
+                    sizes = sizes.ready(map, initial, tags, state, zones, &mask, &mut stems, notes);
                     continue;
                 }
                 let scale = state.scale;
                 let drawn = draw_by_lines(
-                    &map,
+                    map,
                     sizes.map,
                     scale,
                     scale,
@@ -189,23 +181,46 @@ pub fn run(
 {
     let mut zones = [0i32; ZONE_NUMBERS];
     state.list(&mut zones);
-    run_by(script, part, &[], false, first, n, from, state, &zones, out)
+    let mut initial = [0i32; LINES];
+    let mut map = [0i32; LINES];
+    let mut tags = [0u8; TAGS];
+    let mut notes = [0i32; MAX_HINTS];
+    run_by(
+        script,
+        part,
+        &[],
+        false,
+        first,
+        n,
+        from,
+        state,
+        &zones,
+        &mut initial,
+        &mut map,
+        &mut tags,
+        &mut notes,
+        out,
+    )
 }
 
 // Runs all of some words, which are commands with the masks of some bytes. Zones that are listed
-// once serve any number of runs.
+// once, and lists that are lent for the maps, serve any number of runs.
 pub fn run_given(
     masks: &[u8],
     words: &[i32],
     state: HintState,
     zones: &[i32; ZONE_NUMBERS],
+    initial: &mut [i32; LINES],
+    map: &mut [i32; LINES],
+    tags: &mut [u8; TAGS],
+    notes: &mut [i32; MAX_HINTS],
     out: &mut [i32],
 ) -> Ran
     requires { ⌜ Runnable (now masks) (givenWord (now words)) 0 (length (now words)) 0 ×
-        ListedZones state (now zones) ⌝ }
+        (ListedZones state (now zones) × Spare (now initial) (now map) (now tags) (now notes)) ⌝ }
     ensures { λ r. ⌜ Ended (ranOf state (callsOf (now (masks .entry)) 0
         (commandsOf 0 (givenWord (now (words .entry))) (length (now (words .entry))))) (now (out .entry))) r
-        (now (out .exit)) ⌝ }
+        (now (out .exit)) × Spare (now (initial .exit)) (now (map .exit)) (now (tags .exit)) (now (notes .exit)) ⌝ }
 {
     run_by(
         masks,
@@ -217,6 +232,10 @@ pub fn run_given(
         0,
         state,
         zones,
+        initial,
+        map,
+        tags,
+        notes,
         out,
     )
 }

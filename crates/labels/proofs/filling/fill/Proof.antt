@@ -1,5 +1,5 @@
 -- `fill` sets the glyphs first to last, each behind the records before it. Assumes nothing.
-use mathlib.Core.Path.{_≡_, sym, ap, _∙_}
+use mathlib.Core.Path.{_≡_, refl, sym, ap, _∙_}
 use mathlib.Core.List.{List, map}
 use Prim.Native.Nat.{ℕ, _+_, _-_, _*_, _/_, _≤_, _<_}
 use native.Mathlib.Omega.{arith}
@@ -8,6 +8,7 @@ use lib.ListN.{length, take, drop}
 use borrow.Author.Needs.{needs}
 use borrow.Author.Tests.{leb-false}
 use Rattle.zones.specs.Numbers.{ListedZones}
+use Rattle.run.specs.Kept.{Spare}
 use Rattle.labels.specs.Glyphs.{Glyph, glyph, glyphsOf, recordsOf}
 use Rattle.labels.specs.Labels.{headerOf}
 use Rattle.labels.specs.Measured.{sizeOf, Settable, setAt}
@@ -19,11 +20,15 @@ use Rattle.labels.proofs.filling.fill.Statement.{statement}
 use Rattle.labels.proofs.filling.fill.Tie as tie
 
 abbrev Inv-loop : tie.InvT-loop
-Inv-loop commands masks lengths state out₀ zones next₀ at₀ word₀ byte₀ out next at word byte =
-    Filling lengths commands masks state out₀ next at word byte out × ListedZones state zones
+Inv-loop commands masks lengths state out₀ zones initial₀ map₀ tags₀ notes₀ next₀ at₀ word₀ byte₀ out initial map tags
+    notes next at word byte =
+    Filling lengths commands masks state out₀ next at word byte out ×
+    (ListedZones state zones × Spare initial map tags notes)
 
 abbrev μ-loop : tie.MeasureT-loop
-μ-loop commands masks lengths state out₀ zones next₀ at₀ word₀ byte₀ out next at word byte = length lengths - at
+μ-loop commands masks lengths state out₀ zones initial₀ map₀ tags₀ notes₀ next₀ at₀ word₀ byte₀ out initial map tags
+    notes next at word byte =
+    length lengths - at
 
 put-two-requires : tie.Need-put-two-requires Inv-loop μ-loop
 put-two-requires c κs =
@@ -37,8 +42,13 @@ loop-holds : tie.Need-loop-holds Inv-loop μ-loop
 loop-holds c =
     let a = c .before .before .before .before .before .before .args in
     let f = filling (a .lengths .now) (a .commands .now) (a .masks .now) (a .state) (c .before .put-two .last .0)
-    (rw (c .before .put-two .kept .0) (c .before .before .before .before .before .before .pre)) in
-    (f, c .before .before .before .list .ensures)
+    (rw (c .before .put-two .kept .0) (c .before .before .before .before .before .before .pre)) in (
+      f,
+      (
+        c .before .before .before .list .ensures,
+        record { whole = record { all = refl; named = refl }; current = refl; notes = refl },
+      ),
+    )
 
 -- at a glyph, whose two lengths are read
 module _ (c : tie.After-size-at2 Inv-loop μ-loop) where
@@ -89,19 +99,19 @@ add-bytes-end c = omega (arith, begin c .good .1 .0, turn c .loop .inv .0 .walks
 
 fill-glyph-requires : tie.Need-fill-glyph-requires Inv-loop μ-loop
 fill-glyph-requires c κs =
-    let l = c .before .before .before .before in
+    let l = c .before .before .before .before .before .before .before .before in
     (rw (words-long l, bytes-long l) (ready l), turn l .loop .inv .1)
 
 -- the glyph is set
 module _ (c : tie.After-fill-glyph Inv-loop μ-loop) where
   abbrev lengths : tie.After-size-at2 Inv-loop μ-loop
-  lengths = c .before .before .before .before .before
+  lengths = c .before .before .before .before .before .before .before .before .before
 
   set : (c .fill-glyph .result ≡ length (recordsOf (begin lengths .args .state) (here lengths))) ×
-      (c .fill-glyph .last .1 .1 .1 .1 .0 ≡
+      (c .fill-glyph .last .1 .1 .1 .1 .1 .1 .1 .1 .0 ≡
       setAt (begin lengths .args .state) (here lengths) (2 + turn lengths .loop .at) (turn lengths .loop .next)
       (turn lengths .loop .out))
-  set = rw (words-long lengths, bytes-long lengths) at (c .fill-glyph .ensures)
+  set = rw (words-long lengths, bytes-long lengths) at (c .fill-glyph .ensures .0)
 
 add-next-2 : tie.Need-add-next-2 Inv-loop μ-loop
 add-next-2 c =
@@ -113,8 +123,10 @@ loop-again c =
     let g = c .before in
     let l = lengths g in
     let n = l .before .size-at .ensures .0 in
-    let b = l .size-at2 .ensures .0 in
-    (rw (set g .1) (onward-filling (turn l .loop .inv .0) (there l) n b (set g .0)), turn l .loop .inv .1)
+    let b = l .size-at2 .ensures .0 in (
+      rw (set g .1) (onward-filling (turn l .loop .inv .0) (there l) n b (set g .0)),
+      (turn l .loop .inv .1 .0, g .fill-glyph .ensures .1),
+    )
 
 same-length : tie.Need-same-length Inv-loop μ-loop
 same-length c = c .before .loop .inv .0 .same ∙ c .before .before .before .put-two .kept .0

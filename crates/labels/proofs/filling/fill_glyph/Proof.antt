@@ -19,7 +19,7 @@ use Rattle.labels.proofs.filling.fill_glyph.Tie as tie
 -- the run has room for all of the glyph's records
 module _ (c : tie.After-run-given) where
   abbrev begin : tie.Start
-  begin = c .before .before .before
+  begin = c .before .before .before .before .before .before .before
 
   abbrev given : Glyph
   given = glyph (begin .args .words .now) (begin .args .masks .now)
@@ -31,21 +31,22 @@ module _ (c : tie.After-run-given) where
   next = begin .args .next
 
   ran : (c .run-given .result .words ≡ length (recordsOf (begin .args .state) given)) ×
-      (putMid next (length out - next) out (c .run-given .last .1 .1 .1 .1 .0) ≡
+      (putMid next (length out - next) out (c .run-given .last .1 .1 .1 .1 .1 .1 .1 .1 .0) ≡
       placed out next (recordsOf (begin .args .state) given))
   ran =
       let r = ran-whole (begin .args .state) given out next (begin .pre .0 .fits)
-      (rw (lent out next) at (c .run-given .ensures)) in
+      (rw (lent out next) at (c .run-given .ensures .0)) in
       (r .0, back next out _ ∙ r .1)
 
 -- the records start within the output
-inside : (c : tie.After-shared-slice-known) → c .before .args .next ≤ length (c .before .args .out .now)
-inside c = omega (arith, c .before .pre .0 .fits)
+inside : (c : tie.After-run-given-arg4) →
+    let a = c .before .before .before .before .before .args in a .next ≤ length (a .out .now)
+inside c = omega (arith, c .before .before .before .before .before .pre .0 .fits)
 
 run-given-requires : tie.Need-run-given-requires
 unfolding faultOf
 run-given-requires c κs =
-    let s = c .before .before in (
+    let s = c .before .before .before .before .before .before in (
       record {
         short = s .pre .0 .short;
         start = omega arith;
@@ -71,20 +72,19 @@ same-length c =
     let t = c .before in
     let r = t .before .before .before in
     t .put-two .kept .0 ∙
-    same-len-mid (next r) (length (out r) - next r) (out r) (r .run-given .last .1 .1 .1 .1 .0)
-    (r .run-given .kept .1 .1 .1 .1 .0)
+    same-len-mid (next r) (length (out r) - next r) (out r) (r .run-given .last .1 .1 .1 .1 .1 .1 .1 .1 .0)
+    (r .run-given .kept .1 .1 .1 .1 .1 .1 .1 .1 .0)
 
 returns : tie.Need-returns
 returns c =
     let t = c .before in
-    let r = t .before .before .before in (
-      ran r .0,
-      t .put-two .ensures ∙
-          ap (λ (l : List ℤ). placed l (begin r .args .slot) (pos (next r) ∷ pos (r .run-given .result .words) ∷ []))
-          (ran r .1) ∙
-          ap (λ (k : ℕ). placed (placed (out r) (next r) (recordsOf (begin r .args .state) (given r)))
-          (begin r .args .slot) (pos (next r) ∷ pos k ∷ [])) (ran r .0),
-    )
+    let r = t .before .before .before in
+    let e = t .put-two .ensures ∙
+    ap (λ (l : List ℤ). placed l (begin r .args .slot) (pos (next r) ∷ pos (r .run-given .result .words) ∷ []))
+    (ran r .1) ∙
+    ap (λ (k : ℕ). placed (placed (out r) (next r) (recordsOf (begin r .args .state) (given r)))
+    (begin r .args .slot) (pos (next r) ∷ pos k ∷ [])) (ran r .0) in
+    ((ran r .0, e), r .run-given .ensures .1)
 
 pub fill-glyph-spec : {M : Type 1} → statement M
 fill-glyph-spec =

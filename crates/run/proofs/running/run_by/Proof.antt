@@ -19,6 +19,7 @@ use Rattle.commands.specs.declared.reading.Read.{Read}
 use Rattle.commands.specs.declared.reading.Command.the-variants.{Mark, Draw}
 use Rattle.commands.specs.Commands.{readAt, nextAt}
 use Rattle.commands.proofs.Laws.{next-is}
+use Rattle.run.specs.Kept.{Spare}
 use Rattle.run.specs.Run.{wantsMap, wordBy}
 use Rattle.run.proofs.Reading.{mask-there}
 use Rattle.run.proofs.Turns.{turn-done, unready, unready-one, wanted}
@@ -27,14 +28,14 @@ use Rattle.run.proofs.running.run_by.Statement.{statement}
 use Rattle.run.proofs.running.run_by.Tie as tie
 
 abbrev Inv-loop : tie.InvT-loop
-Inv-loop script part words as-words first n from state zones out₀ mask₀ stems₀ initial₀ map₀ tags₀ notes₀ sizes₀ pen₀
-    next₀ at₀ out mask stems initial map tags notes sizes pen next at =
+Inv-loop script part words as-words first n from state zones initial₀ map₀ tags₀ notes₀ out₀ mask₀ stems₀ sizes₀ pen₀
+    next₀ at₀ initial map tags notes out mask stems sizes pen next at =
     Running state script (wordBy as-words part words) first n from out₀ mask stems initial map tags sizes pen next at
     out × Serving state zones notes
 
 abbrev μ-loop : tie.MeasureT-loop
-μ-loop script part words as-words first n from state zones out₀ mask₀ stems₀ initial₀ map₀ tags₀ notes₀ sizes₀ pen₀
-    next₀ at₀ out mask stems initial map tags notes sizes pen next at =
+μ-loop script part words as-words first n from state zones initial₀ map₀ tags₀ notes₀ out₀ mask₀ stems₀ sizes₀ pen₀
+    next₀ at₀ initial map tags notes out mask stems sizes pen next at =
     2 * (n - at) + unready (sizes .valid)
 
 -- the arguments, from a turn's start
@@ -47,7 +48,14 @@ words-of l = wordBy (begin l .args .as-words) (begin l .args .part .now) (begin 
 
 -- no output is longer than memory
 room : (l : tie.At-loop Inv-loop μ-loop) → length (begin l .args .out .now) * 4 < 9223372036854775808
-room l = omega (arith, begin l .good .1 .1 .1 .1 .1 .1 .1 .1 .1 .0)
+room l = omega (arith, begin l .good .1 .1 .1 .1 .1 .1 .1 .1 .1 .1 .1 .1 .1 .0)
+
+-- the lists for the maps serve as they did
+spare : (l : tie.At-loop Inv-loop μ-loop) →
+    Spare (l .loop .initial) (l .loop .map) (l .loop .tags) (l .loop .notes)
+spare l =
+    let m = mappable _ _ _ _ _ _ _ _ _ _ _ _ _ _ _ _ _ (l .loop .inv .0) in
+    record { whole = m .build .whole; current = m .current; notes = l .loop .inv .1 .1 }
 
 -- the command that was read, and the word behind it
 module _ (c : tie.After-read-by Inv-loop μ-loop) where
@@ -118,8 +126,8 @@ loop-holds c =
     let a = s .args in (
       rw (c .before .none .ensures, c .new .ensures)
           (starts (a .state) (a .script .now) _ (a .first) (a .n) (a .from) (a .out .now) _ _ _ (s .pre .1 .0)
-          (record { all = refl; named = refl }) refl),
-      (s .pre .1 .1, refl),
+          (s .pre .1 .1 .1 .whole) (s .pre .1 .1 .1 .current)),
+      (s .pre .1 .1 .0, s .pre .1 .1 .1 .notes),
     )
 
 read-by-requires : tie.Need-read-by-requires Inv-loop μ-loop
@@ -199,7 +207,7 @@ loop-again-3 c =
     )
 
 -- what is left of the output is where it was
-within : (c : tie.After-map2 Inv-loop μ-loop) → let l = draw-turn (c .before .before .before) in
+within : (c : tie.After-draw-by-lines-arg Inv-loop μ-loop) → let l = draw-turn (c .before .before .before) in
     l .loop .next ≤ length (l .loop .out)
 within c = draw-turn (c .before .before .before) .loop .inv .0 .goes .stands .along .within
 
@@ -223,10 +231,12 @@ returns : tie.Need-returns Inv-loop μ-loop
 returns c =
     let d = c .before .before .before in
     let w = asked d in
-    let l = call-turn d in
-    rw (back (l .loop .next) (l .loop .out))
-    (refuses _ _ _ _ _ _ _ _ _ _ _ _ _ _ _ _ _ (l .loop .inv .0) (draw-read w .before .loop-test .taken) _ _ (draw-is w)
-    (unwanted d) (drew-refused (drew d) (c .enum-told .given .1)))
+    let l = call-turn d in (
+      rw (back (l .loop .next) (l .loop .out))
+          (refuses _ _ _ _ _ _ _ _ _ _ _ _ _ _ _ _ _ (l .loop .inv .0) (draw-read w .before .loop-test .taken) _ _
+          (draw-is w) (unwanted d) (drew-refused (drew d) (c .enum-told .given .1))),
+      spare l,
+    )
 
 -- a call that wrote its words
 module _ (c : tie.After-pen Inv-loop μ-loop) where
@@ -271,7 +281,7 @@ loop-again-4 c =
     )
 
 returns-2 : tie.Need-returns-2 Inv-loop μ-loop
-returns-2 c = turn-done (c .before .loop .inv .0 .goes) (omega arith)
+returns-2 c = (turn-done (c .before .loop .inv .0 .goes) (omega arith), spare (c .before))
 
 pub run-by-spec : {M : Type 1} → statement M
 run-by-spec =
