@@ -145,6 +145,15 @@ module _ {ls words : List ℤ} {masks : List ℕ} {i word byte : ℕ} (w : Walk 
           ap (λ (l : List ℤ). glyphsOf l (drop word words) (drop byte masks)) (two-at ls i both-there) ∙
           rw (sym e, sym f, drop-drop n word words, drop-drop b byte masks)
 
+-- what is lent of both lists up to a glyph's ends is the glyph
+pub lent-glyph : (words : List ℤ) (masks : List ℕ) (word n byte b : ℕ) →
+    glyph (take (word + n - word) (drop word words)) (take (byte + b - byte) (drop byte masks)) ≡
+    glyph (take n (drop word words)) (take b (drop byte masks))
+lent-glyph words masks word n byte b =
+    let y : word + n - word ≡ n = omega arith in
+    let z : byte + b - byte ≡ b = omega arith in
+    rw (y, z)
+
 -- two lengths are a glyph
 pub glyphs-many : (ls words : List ℤ) (masks : List ℕ) (k : ℕ) → length ls ≡ 2 * k →
     length (glyphsOf ls words masks) ≡ k

@@ -19,6 +19,9 @@ Inv-loop lengths i₀ i-end i = anyNegative lengths ≡ anyNegative (drop i leng
 abbrev μ-loop : tie.MeasureT-loop
 μ-loop lengths i₀ i-end i = i-end - i
 
+loop-holds : tie.Need-loop-holds Inv-loop μ-loop
+loop-holds c = refl
+
 -- by the length at this place
 module _ (c : tie.After-size-at Inv-loop μ-loop) (b : Bool) (e : negative (c .size-at .result) ≡ b) where
   here : let l = c .before .before in
@@ -44,5 +47,5 @@ returns-2 c =
 pub any-negative-spec : {M : Type 1} → statement M
 any-negative-spec =
     tie.close
-    (tie.spec Inv-loop μ-loop (λ c. refl) (λ c κs. search needs) returns (λ c. search needs) (λ c. omega arith)
+    (tie.spec Inv-loop μ-loop loop-holds (λ c κs. search needs) returns (λ c. search needs) (λ c. omega arith)
     loop-again returns-2)

@@ -18,6 +18,9 @@ Inv-loop lengths first sum₀ at₀ sum at =
 abbrev μ-loop : tie.MeasureT-loop
 μ-loop lengths first sum₀ at₀ sum at = length lengths - at
 
+loop-holds : tie.Need-loop-holds Inv-loop μ-loop
+loop-holds c = (omega arith, omega arith)
+
 add-sum : tie.Need-add-sum Inv-loop μ-loop
 add-sum c = omega (arith, c .before .before .loop .inv .1, c .size-at .ensures .1 .0)
 
@@ -39,5 +42,5 @@ returns c =
 pub sum-from-spec : {M : Type 1} → statement M
 sum-from-spec =
     tie.close
-    (tie.spec Inv-loop μ-loop (λ c. (omega arith, omega arith)) (λ c κs. search needs) add-sum (λ c. omega arith)
-    (λ c. omega arith) loop-again returns)
+    (tie.spec Inv-loop μ-loop loop-holds (λ c κs. search needs) add-sum (λ c. omega arith) (λ c. omega arith) loop-again
+    returns)

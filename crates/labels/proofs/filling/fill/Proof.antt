@@ -1,5 +1,5 @@
 -- `fill` sets the glyphs first to last, each behind the records before it. Assumes nothing.
-use mathlib.Core.Path.{_≡_, refl, sym, ap, _∙_}
+use mathlib.Core.Path.{_≡_, refl, sym, ap, subst, _∙_}
 use mathlib.Core.List.{List, map}
 use Prim.Native.Nat.{ℕ, _+_, _-_, _*_, _/_, _≤_, _<_}
 use native.Mathlib.Omega.{arith}
@@ -12,7 +12,7 @@ use Rattle.run.specs.Kept.{Spare}
 use Rattle.labels.specs.Glyphs.{Glyph, glyph, glyphsOf, recordsOf}
 use Rattle.labels.specs.Labels.{headerOf}
 use Rattle.labels.specs.Measured.{sizeOf, Settable, setAt}
-use Rattle.labels.proofs.Walking.{walk, both-there, first-positive, words-there, bytes-there}
+use Rattle.labels.proofs.Walking.{walk, both-there, first-positive, words-there, bytes-there, lent-glyph}
 use Rattle.labels.proofs.Laying.{laidFrom}
 use Rattle.labels.proofs.Rooms.{sum-least}
 use Rattle.labels.proofs.Filled.{size-is, Filling, filling, laid-result, filled, settable, onward-filling}
@@ -81,12 +81,14 @@ module _ (c : tie.After-size-at2 Inv-loop μ-loop) where
       settable m there (n .0) (c .size-at2 .ensures .0)
       (leb-false 2147483648 _ (sym (n .1 .1) ∙ first-positive (m .walks) there .0))
 
-  -- the parts that are lent are those lengths long
-  words-long : turn .loop .word + c .before .size-at .result - turn .loop .word ≡ c .before .size-at .result
-  words-long = omega arith
-
-  bytes-long : turn .loop .byte + c .size-at2 .result - turn .loop .byte ≡ c .size-at2 .result
-  bytes-long = omega arith
+  -- what is lent is the glyph
+  lent : let w = turn .loop .word in
+      let b = turn .loop .byte in
+      glyph (take (w + c .before .size-at .result - w) (drop w (begin .args .commands .now)))
+      (take (b + c .size-at2 .result - b) (drop b (begin .args .masks .now))) ≡ here
+  lent =
+      lent-glyph (begin .args .commands .now) (begin .args .masks .now) (turn .loop .word) (c .before .size-at .result)
+      (turn .loop .byte) (c .size-at2 .result)
 
 add-words-end : tie.Need-add-words-end Inv-loop μ-loop
 add-words-end c =
@@ -100,7 +102,8 @@ add-bytes-end c = omega (arith, begin c .good .1 .0, turn c .loop .inv .0 .walks
 fill-glyph-requires : tie.Need-fill-glyph-requires Inv-loop μ-loop
 fill-glyph-requires c κs =
     let l = c .before .before .before .before .before .before .before .before in
-    (rw (words-long l, bytes-long l) (ready l), turn l .loop .inv .1)
+    let t = turn l .loop in
+    (subst (λ (g : Glyph). Settable g (2 + t .at) (t .next) (length (t .out))) (sym (lent l)) (ready l), t .inv .1)
 
 -- the glyph is set
 module _ (c : tie.After-fill-glyph Inv-loop μ-loop) where
@@ -111,7 +114,12 @@ module _ (c : tie.After-fill-glyph Inv-loop μ-loop) where
       (c .fill-glyph .last .1 .1 .1 .1 .1 .1 .1 .1 .0 ≡
       setAt (begin lengths .args .state) (here lengths) (2 + turn lengths .loop .at) (turn lengths .loop .next)
       (turn lengths .loop .out))
-  set = rw (words-long lengths, bytes-long lengths) at (c .fill-glyph .ensures .0)
+  set =
+      let t = turn lengths .loop in
+      let st = begin lengths .args .state in
+      subst (λ (g : Glyph). (c .fill-glyph .result ≡ length (recordsOf st g)) ×
+      (c .fill-glyph .last .1 .1 .1 .1 .1 .1 .1 .1 .0 ≡ setAt st g (2 + t .at) (t .next) (t .out)))
+      (lent lengths) (c .fill-glyph .ensures .0)
 
 add-next-2 : tie.Need-add-next-2 Inv-loop μ-loop
 add-next-2 c =

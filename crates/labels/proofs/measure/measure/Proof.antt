@@ -17,6 +17,7 @@ use Rattle.labels.specs.Answers.{inGlyph}
 use Rattle.labels.specs.Glyphs.{Glyph, glyph, faultOf}
 use Rattle.labels.specs.Measured.{sizeOf, surveyOf, takenBy}
 use Rattle.labels.proofs.Walking.{walk, both-there, first-positive, second-positive, words-there, bytes-there}
+use Rattle.labels.proofs.Walking.{lent-glyph}
 use Rattle.labels.proofs.Measuring.{Measuring, measuring, faulty, counting, full, measured}
 use Rattle.labels.proofs.measure.measure.Statement.{statement}
 use Rattle.labels.proofs.measure.measure.Tie as tie
@@ -70,12 +71,11 @@ module _ (c : tie.After-survey Inv-loop μ-loop) where
   surveyed : (c .survey .result ≡ surveyOf (here lengths)) ×
       (c .survey .result .words ≤ 10 * length (here lengths .words))
   surveyed =
+      let a = begin lengths .args in
       let l = turn lengths .loop in
-      let n = lengths .before .size-at .result in
-      let b = lengths .size-at2 .result in
-      let y : l .word + n - l .word ≡ n = omega arith in
-      let z : l .byte + b - l .byte ≡ b = omega arith in
-      rw (y, z) at (c .survey .ensures)
+      subst (λ (g : Glyph). (c .survey .result ≡ surveyOf g) × (c .survey .result .words ≤ 10 * length (g .words)))
+      (lent-glyph (a .commands .now) (a .masks .now) (l .word) (lengths .before .size-at .result) (l .byte)
+      (lengths .size-at2 .result)) (c .survey .ensures)
 
   fault : c .survey .result .answer ≡ faultOf (here lengths)
   unfolding surveyOf

@@ -1,10 +1,11 @@
 -- `survey` reads a glyph's commands first to last: the first fault ends it, and a call that is drawn
 -- adds its words. Assumes nothing.
-use mathlib.Core.Path.{_≡_, refl, sym, ap, _∙_}
+use mathlib.Core.Path.{_≡_, refl, sym, ap, subst, _∙_}
 use Prim.Native.Nat.{ℕ, _+_, _-_, _*_, _≤_, _<_}
 use native.Mathlib.Omega.{arith}
 use lib.ListN.{length}
 use borrow.Author.Needs.{needs}
+use Rattle.pen.specs.declared.counting.Trail.{Trail}
 use Rattle.words.specs.Words.{givenWord}
 use Rattle.words.specs.Answers.{firstOf}
 use Rattle.commands.specs.declared.reading.Read.{Read}
@@ -51,7 +52,8 @@ module _ (c : tie.After-fault-in Inv-loop μ-loop) where
 loop-holds : tie.Need-loop-holds Inv-loop μ-loop
 loop-holds c =
     let a = c .before .before .args in
-    (rw (c .new .ensures) (surveying (glyph (a .words .now) (a .masks .now))), omega arith)
+    let g = glyph (a .words .now) (a .masks .now) in
+    (subst (λ (t : Trail). Surveying g t 0 0) (sym (c .new .ensures)) (surveying g), omega arith)
 
 returns : tie.Need-returns Inv-loop μ-loop
 returns c =
