@@ -15,7 +15,10 @@ run-by-requires c κs =
       ),
     )
 
+returns : tie.Need-returns
+returns c = c .before .run-by .ensures .0
+
 pub run-spec : {M : Type 1} → statement M
 run-spec =
     tie.close
-    (tie.spec (λ c κs. search needs) (λ c. search needs) run-by-requires (λ c. search needs) (λ c. search needs))
+    (tie.spec (λ c κs. search needs) (λ c. search needs) run-by-requires (λ c. search needs) returns)
