@@ -1,5 +1,5 @@
 -- The parts of a build, one after the other, are the build. Assumes nothing.
-use mathlib.Core.Path.{_≡_, refl, sym, ap, subst, _∙_}
+use mathlib.Core.Path.{_≡_, refl, sym, ap, _∙_}
 use mathlib.Core.Bool.{Bool, true, false}
 use mathlib.Core.List.{List}
 use Prim.Native.Nat.{ℕ, min}
@@ -33,12 +33,6 @@ unfolding stemsIn
 declared-least ns count k e =
     ap (λ (n : ℕ). take n (stemsIn ns count .list)) e ∙
     take-least count 96 (stemsIn ns count .list) (stems-long ns count)
-
--- a round of a state that is another is the other's
-pub locked-of : {st st′ : HintState} {ss : Stems} {ls ls′ : List ℤ} {ts ts′ rest rest′ : List ℕ} {n n′ : ℕ} → st ≡ st′ →
-    Locked st ss ls ts n rest n′ ls′ ts′ rest′ → Locked st′ ss ls ts n rest n′ ls′ ts′ rest′
-locked-of {ss = ss} {ls = ls} {ls′ = ls′} {ts = ts} {ts′ = ts′} {rest = rest} {rest′ = rest′} {n = n} {n′ = n′} e l =
-    subst (λ (s : HintState). Locked s ss ls ts n rest n′ ls′ ts′ rest′) e l
 
 module _ (st : HintState) (ns : List ℤ) (count k : ℕ) (e : k ≡ min count 96) where
   abbrev s : Fixed

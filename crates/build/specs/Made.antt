@@ -12,7 +12,6 @@ use Rattle.stems.specs.Mask.{ofBytes}
 use Rattle.stems.specs.Edge.{maxHints}
 use Rattle.stems.specs.Lists.{held, Whole, stemsIn}
 use Rattle.zones.specs.declared.state.HintState.{HintState}
-use Rattle.zones.specs.Numbers.{ListedZones}
 use Rattle.hintmap.specs.declared.map.HintMap.{HintMap}
 use Rattle.hintmap.specs.Map.{newMap, validMap}
 use Rattle.hintmap.specs.Lent.{mapIn, Lent, LinesOf}
@@ -64,10 +63,6 @@ pub record SavedIn (ns : List ℤ) (ls : List ℤ) (ts : List ℕ) (n : ℕ) (ns
 pub record MadeInitial (st : HintState) (ss : Stems) (n : ℕ) (ls : List ℤ) (ts : List ℕ) : Type 0 where
   pub lent : Lent ls ts n
   pub map : validMap (mapIn ls ts n (st .scale)) ≡ initialOf st ss
-
--- what serves every build: the state's zones, and room for notes
-abbrev pub Serving : HintState → List ℤ → List ℤ → Type 0
-Serving st zs by = ListedZones st zs × NoteRoom by
 
 -- lists in which a map can be made
 pub record Makable (ls : List ℤ) (ts : List ℕ) (ns : List ℤ) (size : ℕ) : Type 0 where

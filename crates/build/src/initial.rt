@@ -11,42 +11,35 @@ use stems::MAX_HINTS;
 use stems::STEM_NUMBERS;
 use stems::Stems;
 use stems::TAGS;
+use zones::Gauge;
 use zones::HintState;
 use zones::ZONE_NUMBERS;
 ghost use mathlib.Core.Path.{_≡_};
 ghost use Rattle.stems.specs.Lists.{Whole, stemsIn};
+ghost use Rattle.zones.specs.Numbers.{stateIn};
 ghost use Rattle.build.specs.Build.{initialOf};
-ghost use Rattle.build.specs.Made.{NoteRoom, Serving, MadeInitial};
+ghost use Rattle.build.specs.Made.{NoteRoom, MadeInitial};
 
 // Ports `build` where it is the initial map's, into lists: all stems that are locked or captured, and
 // the baseline. The adjustment has `notes` for its own. Gives the map's length.
 pub fn make_initial(
     lines: &mut [i32; LINES],
     tags: &mut [u8; TAGS],
-    state: HintState,
+    gauge: Gauge,
     zones: &[i32; ZONE_NUMBERS],
     stems: &[i32; STEM_NUMBERS],
     count: usize,
     notes: &mut [i32; MAX_HINTS],
 ) -> usize
-    requires { ⌜ Whole (now lines) (now tags) × Serving state (now zones) (now notes) ⌝ }
-    ensures { λ r. ⌜ MadeInitial state (stemsIn (now (stems .entry)) count) r (now (lines .exit)) (now (tags .exit)) ×
-        NoteRoom (now (notes .exit)) ⌝ }
+    requires { ⌜ Whole (now lines) (now tags) × NoteRoom (now notes) ⌝ }
+    ensures { λ r. ⌜ MadeInitial (stateIn gauge (now (zones .entry))) (stemsIn (now (stems .entry)) count) r
+        (now (lines .exit)) (now (tags .exit)) × NoteRoom (now (notes .exit)) ⌝ }
 {
-    let boxed = put_em_box(lines, tags, state.do_em_box_hints, state.scale);
+    let boxed = put_em_box(lines, tags, gauge.do_em_box_hints, gauge.scale);
     let mut rest = [255u8; HINT_MASK_SIZE];
     let declared = least(count, MAX_HINTS);
-    let placed = place_locked(
-        lines,
-        tags,
-        boxed,
-        &mut rest,
-        state.gauge(),
-        zones,
-        stems,
-        declared,
-    );
-    let len = put_baseline(lines, tags, placed, state.scale);
+    let placed = place_locked(lines, tags, boxed, &mut rest, gauge, zones, stems, declared);
+    let len = put_baseline(lines, tags, placed, gauge.scale);
     adjust(lines, tags, len, notes);
     len
 }
@@ -65,7 +58,7 @@ pub fn build_initial(state: HintState, stems: Stems) -> HintMap
     let len = make_initial(
         &mut lines,
         &mut tags,
-        state,
+        state.gauge(),
         &zones,
         &numbers,
         stems.count,

@@ -13,11 +13,13 @@ use stems::MAX_HINTS;
 use stems::STEM_NUMBERS;
 use stems::Stems;
 use stems::TAGS;
+use zones::Gauge;
 use zones::HintState;
 use zones::ZONE_NUMBERS;
 ghost use mathlib.Core.Path.{_≡_};
+ghost use Rattle.zones.specs.Numbers.{stateIn};
 ghost use Rattle.build.specs.Build.{builtOf};
-ghost use Rattle.build.specs.Made.{NoteRoom, Serving, Makable, MadeMap};
+ghost use Rattle.build.specs.Made.{NoteRoom, Makable, MadeMap};
 
 // A map, and the stems after its build.
 pub struct Built {
@@ -31,7 +33,7 @@ pub struct Built {
 pub fn make_map(
     lines: &mut [i32; LINES],
     tags: &mut [u8; TAGS],
-    state: HintState,
+    gauge: Gauge,
     zones: &[i32; ZONE_NUMBERS],
     mask: HintMask,
     stems: &mut [i32; STEM_NUMBERS],
@@ -41,24 +43,16 @@ pub fn make_map(
     base: Fixed,
     notes: &mut [i32; MAX_HINTS],
 ) -> usize
-    requires { ⌜ Makable (now lines) (now tags) (now stems) size × Serving state (now zones) (now notes) ⌝ }
-    ensures { λ r. ⌜ MadeMap state mask (now (stems .entry)) count (now (initial .entry)) size base r
-        (now (lines .exit)) (now (tags .exit)) (now (stems .exit)) × NoteRoom (now (notes .exit)) ⌝ }
+    requires { ⌜ Makable (now lines) (now tags) (now stems) size × NoteRoom (now notes) ⌝ }
+    ensures { λ r. ⌜ MadeMap (stateIn gauge (now (zones .entry))) mask (now (stems .entry)) count
+        (now (initial .entry)) size base r (now (lines .exit)) (now (tags .exit)) (now (stems .exit)) ×
+        NoteRoom (now (notes .exit)) ⌝ }
 {
-    let boxed = put_em_box(lines, tags, state.do_em_box_hints, state.scale);
+    let boxed = put_em_box(lines, tags, gauge.do_em_box_hints, gauge.scale);
     let mut rest = mask.bytes;
     let declared = least(count, MAX_HINTS);
-    let locked = place_locked(
-        lines,
-        tags,
-        boxed,
-        &mut rest,
-        state.gauge(),
-        zones,
-        stems,
-        declared,
-    );
-    let scale = state.scale;
+    let locked = place_locked(lines, tags, boxed, &mut rest, gauge, zones, stems, declared);
+    let scale = gauge.scale;
     let len = place_free(
         lines,
         tags,
@@ -94,7 +88,7 @@ pub fn build_map(state: HintState, mask: HintMask, stems: Stems, initial: HintMa
     let len = make_map(
         &mut lines,
         &mut tags,
-        state,
+        state.gauge(),
         &zones,
         mask,
         &mut numbers,

@@ -67,6 +67,12 @@ abbrev pub setAt : HintState → Glyph → ℕ → ℕ → List ℤ → List ℤ
 setAt st g slot next out =
     placed (placed out next (recordsOf st g)) slot (pos next ∷ pos (length (recordsOf st g)) ∷ [])
 
+-- the glyph set so: how many words it has, and the output
+pub record GlyphSet (st : HintState) (g : Glyph) (slot next : ℕ) (out : List ℤ) (words : ℕ) (left : List ℤ) : Type 0
+  where
+    pub size : words ≡ length (recordsOf st g)
+    pub memory : left ≡ setAt st g slot next out
+
 -- lengths of so many glyphs, none of them at fault, whose records and header fit
 pub record Fillable (ls words : List ℤ) (masks : List ℕ) (room : ℕ) : Type 0 where
   pub counted : miscounted ls (length words) (length masks) ≡ false

@@ -5,6 +5,7 @@ use run::run_given;
 use stems::LINES;
 use stems::MAX_HINTS;
 use stems::TAGS;
+use zones::Gauge;
 use zones::HintState;
 use zones::ZONE_NUMBERS;
 ghost use mathlib.Core.Path.{_≡_};
@@ -12,13 +13,13 @@ ghost use mathlib.Core.List.{[], _∷_, map};
 ghost use Prim.Native.Nat.{_+_, _≤_, _<_};
 ghost use lib.IntN.{pos};
 ghost use lib.ListN.{length};
-ghost use Rattle.zones.specs.Numbers.{ListedZones};
+ghost use Rattle.zones.specs.Numbers.{stateIn};
 ghost use Rattle.pen.specs.Records.{written};
 ghost use Rattle.words.specs.Bytes.{placed};
 ghost use Rattle.run.specs.Kept.{Spare};
 ghost use Rattle.labels.specs.Glyphs.{glyph, glyphsOf, recordsOf};
 ghost use Rattle.labels.specs.Labels.{labelWords};
-ghost use Rattle.labels.specs.Measured.{Settable, setAt, Fillable};
+ghost use Rattle.labels.specs.Measured.{Settable, GlyphSet, Fillable};
 
 // What the first word of a result says.
 const RESULT_VERSION: usize = 1;
@@ -39,7 +40,7 @@ fn put_two(out: &mut [i32], i: usize, first: usize, second: usize)
 fn fill_glyph(
     masks: &[u8],
     words: &[i32],
-    state: HintState,
+    gauge: Gauge,
     zones: &[i32; ZONE_NUMBERS],
     initial: &mut [i32; LINES],
     map: &mut [i32; LINES],
@@ -50,16 +51,15 @@ fn fill_glyph(
     next: usize,
 ) -> usize
     requires { ⌜ Settable (glyph (now words) (now masks)) slot next (length (now out)) ×
-        (ListedZones state (now zones) × Spare (now initial) (now map) (now tags) (now notes)) ⌝ }
-    ensures { λ r. ⌜ ((r ≡ length (recordsOf state (glyph (now (words .entry)) (now (masks .entry))))) ×
-        (now (out .exit) ≡ setAt state (glyph (now (words .entry)) (now (masks .entry))) slot next
-        (now (out .entry)))) ×
+        Spare (now initial) (now map) (now tags) (now notes) ⌝ }
+    ensures { λ r. ⌜ GlyphSet (stateIn gauge (now (zones .entry))) (glyph (now (words .entry)) (now (masks .entry)))
+        slot next (now (out .entry)) r (now (out .exit)) ×
         Spare (now (initial .exit)) (now (map .exit)) (now (tags .exit)) (now (notes .exit)) ⌝ }
 {
     let ran = run_given(
         masks,
         words,
-        state,
+        gauge,
         zones,
         initial,
         map,
@@ -86,6 +86,7 @@ pub(crate) fn fill(
 {
     let mut zones = [0i32; ZONE_NUMBERS];
     state.list(&mut zones);
+    let gauge = state.gauge();
     let mut initial = [0i32; LINES];
     let mut map = [0i32; LINES];
     let mut tags = [0u8; TAGS];
@@ -101,7 +102,7 @@ pub(crate) fn fill(
         let words = fill_glyph(
             &masks[byte..bytes_end],
             &commands[word..words_end],
-            state,
+            gauge,
             &zones,
             &mut initial,
             &mut map,

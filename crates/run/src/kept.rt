@@ -11,7 +11,7 @@ use stems::STEM_NUMBERS;
 use stems::StemHint;
 use stems::TAGS;
 use stems::put_stem;
-use zones::HintState;
+use zones::Gauge;
 use zones::ZONE_NUMBERS;
 ghost use mathlib.Core.Path.{_≡_};
 ghost use Prim.Native.Nat.{_≤_};
@@ -19,7 +19,8 @@ ghost use lib.ListN.{length};
 ghost use Rattle.stems.specs.Edge.{maxHints};
 ghost use Rattle.stems.specs.Mask.{maskSize};
 ghost use Rattle.stems.specs.Lists.{Whole};
-ghost use Rattle.build.specs.Made.{NoteRoom, Serving};
+ghost use Rattle.zones.specs.Numbers.{stateIn};
+ghost use Rattle.build.specs.Made.{NoteRoom};
 ghost use Rattle.run.specs.Kept.{noSizes, Stemmed, Masked, Cleared, Based, Buildable, Countered};
 ghost use Rattle.run.specs.Kept.{Mappable, Readied};
 
@@ -111,20 +112,19 @@ impl Sizes {
         self,
         initial: &mut [i32; LINES],
         tags: &mut [u8; TAGS],
-        state: HintState,
+        gauge: Gauge,
         zones: &[i32; ZONE_NUMBERS],
         stems: &[i32; STEM_NUMBERS],
         notes: &mut [i32; MAX_HINTS],
     ) -> Sizes
-        requires { ⌜ Whole (now initial) (now tags) ×
-            ((self .initial ≤ maxHints) × Serving state (now zones) (now notes)) ⌝ }
-        ensures { λ r. ⌜ Based state self (now (initial .entry)) (now (stems .entry)) r (now (initial .exit))
-            (now (tags .exit)) × NoteRoom (now (notes .exit)) ⌝ }
+        requires { ⌜ Whole (now initial) (now tags) × ((self .initial ≤ maxHints) × NoteRoom (now notes)) ⌝ }
+        ensures { λ r. ⌜ Based (stateIn gauge (now (zones .entry))) self (now (initial .entry)) (now (stems .entry)) r
+            (now (initial .exit)) (now (tags .exit)) × NoteRoom (now (notes .exit)) ⌝ }
     {
         if self.based {
             return self;
         }
-        let len = make_initial(initial, tags, state, zones, stems, self.stems, notes);
+        let len = make_initial(initial, tags, gauge, zones, stems, self.stems, notes);
         let mut sizes = self;
         sizes.initial = len;
         sizes.based = true;
@@ -136,29 +136,30 @@ impl Sizes {
         self,
         initial: &mut [i32; LINES],
         tags: &mut [u8; TAGS],
-        state: HintState,
+        gauge: Gauge,
         zones: &[i32; ZONE_NUMBERS],
         mask: HintMask,
         stems: &mut [i32; STEM_NUMBERS],
         notes: &mut [i32; MAX_HINTS],
     ) -> Sizes
-        requires { ⌜ Buildable self (now initial) (now tags) (now stems) × Serving state (now zones) (now notes) ⌝ }
-        ensures { λ r. ⌜ Countered state mask self (now (initial .entry)) (now (stems .entry)) r (now (initial .exit))
-            (now (tags .exit)) (now (stems .exit)) × NoteRoom (now (notes .exit)) ⌝ }
+        requires { ⌜ Buildable self (now initial) (now tags) (now stems) × NoteRoom (now notes) ⌝ }
+        ensures { λ r. ⌜ Countered (stateIn gauge (now (zones .entry))) mask self (now (initial .entry))
+            (now (stems .entry)) r (now (initial .exit)) (now (tags .exit)) (now (stems .exit)) ×
+            NoteRoom (now (notes .exit)) ⌝ }
     {
-        let sizes = self.with_initial(initial, tags, state, zones, stems, notes);
+        let sizes = self.with_initial(initial, tags, gauge, zones, stems, notes);
         let mut thrown = [0i32; LINES];
         make_map(
             &mut thrown,
             tags,
-            state,
+            gauge,
             zones,
             mask,
             stems,
             sizes.stems,
             initial,
             sizes.initial,
-            state.scale,
+            gauge.scale,
             notes,
         );
         sizes
@@ -170,31 +171,31 @@ impl Sizes {
         map: &mut [i32; LINES],
         initial: &mut [i32; LINES],
         tags: &mut [u8; TAGS],
-        state: HintState,
+        gauge: Gauge,
         zones: &[i32; ZONE_NUMBERS],
         mask: &[u8; HINT_MASK_SIZE],
         stems: &mut [i32; STEM_NUMBERS],
         notes: &mut [i32; MAX_HINTS],
     ) -> Sizes
         requires { ⌜ Mappable self (now map) (now initial) (now tags) (now stems) (now mask) ×
-            Serving state (now zones) (now notes) ⌝ }
-        ensures { λ r. ⌜ Readied state self (now (initial .entry)) (now (mask .entry)) (now (stems .entry)) r
-            (now (map .exit)) (now (initial .exit)) (now (tags .exit)) (now (stems .exit)) ×
+            NoteRoom (now notes) ⌝ }
+        ensures { λ r. ⌜ Readied (stateIn gauge (now (zones .entry))) self (now (initial .entry)) (now (mask .entry))
+            (now (stems .entry)) r (now (map .exit)) (now (initial .exit)) (now (tags .exit)) (now (stems .exit)) ×
             NoteRoom (now (notes .exit)) ⌝ }
     {
-        let based = self.with_initial(initial, tags, state, zones, stems, notes);
+        let based = self.with_initial(initial, tags, gauge, zones, stems, notes);
         let present = HintMask::new(mask);
         let len = make_map(
             map,
             tags,
-            state,
+            gauge,
             zones,
             present,
             stems,
             based.stems,
             initial,
             based.initial,
-            state.scale,
+            gauge.scale,
             notes,
         );
         let mut sizes = based;

@@ -8,12 +8,13 @@ use stems::LINES;
 use stems::MAX_HINTS;
 use stems::STEM_NUMBERS;
 use stems::TAGS;
-use zones::HintState;
+use zones::Gauge;
 use zones::ZONE_NUMBERS;
 ghost use mathlib.Core.Path.{_≡_};
 ghost use Prim.Native.Nat.{_+_, _≤_};
 ghost use lib.ListN.{length, take, drop};
-ghost use Rattle.build.specs.Made.{NoteRoom, Serving};
+ghost use Rattle.zones.specs.Numbers.{stateIn};
+ghost use Rattle.build.specs.Made.{NoteRoom};
 ghost use Rattle.run.specs.Run.{maskAt};
 ghost use Rattle.run.specs.Kept.{Markable, Marked};
 
@@ -40,7 +41,7 @@ pub(crate) fn marked(
     script: &[u8],
     from: usize,
     marking: Marking,
-    state: HintState,
+    gauge: Gauge,
     zones: &[i32; ZONE_NUMBERS],
     mask: &mut [u8; HINT_MASK_SIZE],
     stems: &mut [i32; STEM_NUMBERS],
@@ -49,10 +50,10 @@ pub(crate) fn marked(
     notes: &mut [i32; MAX_HINTS],
 ) -> Sizes
     requires { ⌜ Markable (now script) from marking sizes (now mask) (now stems) (now initial) (now tags) ×
-        Serving state (now zones) (now notes) ⌝ }
-    ensures { λ r. ⌜ Marked state (now (script .entry)) from marking sizes (now (mask .entry)) (now (stems .entry))
-        (now (initial .entry)) r (now (mask .exit)) (now (stems .exit)) (now (initial .exit)) (now (tags .exit)) ×
-        NoteRoom (now (notes .exit)) ⌝ }
+        NoteRoom (now notes) ⌝ }
+    ensures { λ r. ⌜ Marked (stateIn gauge (now (zones .entry))) (now (script .entry)) from marking sizes
+        (now (mask .entry)) (now (stems .entry)) (now (initial .entry)) r (now (mask .exit)) (now (stems .exit))
+        (now (initial .exit)) (now (tags .exit)) × NoteRoom (now (notes .exit)) ⌝ }
 {
     match marking {
         Marking::Bad => sizes,
@@ -60,7 +61,7 @@ pub(crate) fn marked(
         Marking::Mask { start, len } => sizes.with_mask(mask, mask_at(script, from, start, len)),
         Marking::Counter { start, len } => {
             let given = mask_at(script, from, start, len);
-            sizes.counter(initial, tags, state, zones, given, stems, notes)
+            sizes.counter(initial, tags, gauge, zones, given, stems, notes)
         }
         Marking::Clear => {
             clear_lists(mask, stems);

@@ -16,12 +16,13 @@ use stems::MAX_HINTS;
 use stems::STEM_NUMBERS;
 use stems::TAGS;
 use words::Answer;
+use zones::Gauge;
 use zones::HintState;
 use zones::ZONE_NUMBERS;
 ghost use mathlib.Core.Path.{_≡_};
 ghost use Prim.Native.Nat.{_*_, _≤_, _<_};
 ghost use lib.ListN.{length};
-ghost use Rattle.zones.specs.Numbers.{ListedZones};
+ghost use Rattle.zones.specs.Numbers.{stateIn};
 ghost use Rattle.words.specs.Words.{rawAt, givenWord};
 ghost use Rattle.commands.specs.Commands.{readAt, commandsOf};
 ghost use Rattle.run.specs.Kept.{Spare};
@@ -74,7 +75,7 @@ fn read_by(part: &[u8], words: &[i32], as_words: bool, n: usize, at: usize) -> R
 }
 
 // Runs `n` command words, the first of which is called word `first`. Their masks are bytes of the
-// script, from byte `from` on. The zones of the state are lent as numbers.
+// script, from byte `from` on. The state is its numbers and a list of zones.
 fn run_by(
     script: &[u8],
     part: &[u8],
@@ -83,7 +84,7 @@ fn run_by(
     first: usize,
     n: usize,
     from: usize,
-    state: HintState,
+    gauge: Gauge,
     zones: &[i32; ZONE_NUMBERS],
     initial: &mut [i32; LINES],
     map: &mut [i32; LINES],
@@ -93,8 +94,8 @@ fn run_by(
 ) -> Ran
     requires { ⌜ ThereBy as_words (now part) (now words) n ×
         (Runnable (now script) (wordBy as_words (now part) (now words)) first n from ×
-        (ListedZones state (now zones) × Spare (now initial) (now map) (now tags) (now notes))) ⌝ }
-    ensures { λ r. ⌜ Ended (ranOf state (callsOf (now (script .entry)) from
+        Spare (now initial) (now map) (now tags) (now notes)) ⌝ }
+    ensures { λ r. ⌜ Ended (ranOf (stateIn gauge (now (zones .entry))) (callsOf (now (script .entry)) from
         (commandsOf first (wordBy as_words (now (part .entry)) (now (words .entry))) n)) (now (out .entry))) r
         (now (out .exit)) × Spare (now (initial .exit)) (now (map .exit)) (now (tags .exit)) (now (notes .exit)) ⌝ }
 {
@@ -118,7 +119,7 @@ fn run_by(
                     script,
                     from,
                     marking,
-                    state,
+                    gauge,
                     zones,
                     &mut mask,
                     &mut stems,
@@ -130,10 +131,10 @@ fn run_by(
             }
             Command::Draw(path) => {
                 if wants_map(path, sizes.valid) {
-                    sizes = sizes.ready(map, initial, tags, state, zones, &mask, &mut stems, notes);
+                    sizes = sizes.ready(map, initial, tags, gauge, zones, &mask, &mut stems, notes);
                     continue;
                 }
-                let scale = state.scale;
+                let scale = gauge.scale;
                 let drawn = draw_by_lines(
                     map,
                     sizes.map,
@@ -193,7 +194,7 @@ pub fn run(
         first,
         n,
         from,
-        state,
+        state.gauge(),
         &zones,
         &mut initial,
         &mut map,
@@ -203,12 +204,12 @@ pub fn run(
     )
 }
 
-// Runs all of some words, which are commands with the masks of some bytes. Zones that are listed
-// once, and lists that are lent for the maps, serve any number of runs.
+// Runs all of some words, which are commands with the masks of some bytes. A state's numbers and its
+// zones, listed once, serve any number of runs, and so do the lists that are lent for the maps.
 pub fn run_given(
     masks: &[u8],
     words: &[i32],
-    state: HintState,
+    gauge: Gauge,
     zones: &[i32; ZONE_NUMBERS],
     initial: &mut [i32; LINES],
     map: &mut [i32; LINES],
@@ -217,8 +218,8 @@ pub fn run_given(
     out: &mut [i32],
 ) -> Ran
     requires { ⌜ Runnable (now masks) (givenWord (now words)) 0 (length (now words)) 0 ×
-        (ListedZones state (now zones) × Spare (now initial) (now map) (now tags) (now notes)) ⌝ }
-    ensures { λ r. ⌜ Ended (ranOf state (callsOf (now (masks .entry)) 0
+        Spare (now initial) (now map) (now tags) (now notes) ⌝ }
+    ensures { λ r. ⌜ Ended (ranOf (stateIn gauge (now (zones .entry))) (callsOf (now (masks .entry)) 0
         (commandsOf 0 (givenWord (now (words .entry))) (length (now (words .entry))))) (now (out .entry))) r
         (now (out .exit)) × Spare (now (initial .exit)) (now (map .exit)) (now (tags .exit)) (now (notes .exit)) ⌝ }
 {
@@ -230,7 +231,7 @@ pub fn run_given(
         0,
         words.len(),
         0,
-        state,
+        gauge,
         zones,
         initial,
         map,

@@ -3,6 +3,7 @@ use borrow.Author.Needs.{needs}
 use mathlib.Core.Path.{_≡_, refl, ap, _∙_}
 use native.Mathlib.Omega.{arith}
 use Rattle.stems.specs.declared.edge.Stems.{Stems}
+use Rattle.zones.proofs.Listing.{state-is}
 use Rattle.hintmap.specs.declared.map.HintMap.{HintMap}
 use Rattle.hintmap.specs.Map.{validMap}
 use Rattle.hintmap.proofs.Near.{held-long}
@@ -19,14 +20,14 @@ both m m′ ss ss′ p q = rw (p, q)
 
 make-map-requires : tie.Need-make-map-requires
 make-map-requires c κs =
-    let k = c .before .before .before .before .before .before in
-    let z = k .before .before .before .before in (
+    let k = c .before .before .before .before .before .before .before in
+    let l = k .before .before .before .before .before .before in (
       record {
         whole = search needs;
-        long = z .before .before .list .ensures .long;
+        long = l .list .ensures .long;
         initial = omega (arith, k .least .ensures);
       },
-      (z .list2 .ensures, refl),
+      refl,
     )
 
 returns : tie.Need-returns
@@ -34,13 +35,16 @@ returns c =
     let v = c .before .before in
     let f = v .before in
     let m = f .before .before .before in
-    let k = m .before .before .before .before .before .before .before in
+    let g = m .before .before .before .before .before in
+    let k = g .before .before .before in
     let i = k .before in
-    let l = i .before .before .before .before .before in
+    let z = i .before .before .before in
+    let l = z .before .before in
     let s = l .before .before in
     let a = s .args in
+    let made = rw (state-is (a .state) _ _ (g .gauge .ensures) (z .list2 .ensures)) at (m .make-map .ensures .0) in
     both _ _ _ _ (v .validate .ensures ∙ ap validMap (f .from-lists .ensures)) (c .from-list .ensures) ∙
-    m .make-map .ensures .0 .built (a .initial) refl
+    made .built (a .initial) refl
     (listed-lines (a .initial) _ _ _ (held-long (a .initial) (s .good .1 .1 .1 .0 .1 .1 .0 .1 .0 .1))
     (i .list3 .ensures) (k .least .ensures)) ∙
     ap (builtOf (a .state) (a .mask) (a .initial)) (l .list .ensures .stems)
@@ -49,4 +53,5 @@ pub build-map-spec : {M : Type 1} → statement M
 build-map-spec =
     tie.close
     (tie.spec (λ c κs. search needs) (λ c κs. search needs) (λ c κs. search needs) (λ c κs. search needs)
-    make-map-requires (λ c κs. search needs) (λ c κs. search needs) (λ c κs. search needs) returns)
+    (λ c κs. search needs) make-map-requires (λ c κs. search needs) (λ c κs. search needs) (λ c κs. search needs)
+    returns)

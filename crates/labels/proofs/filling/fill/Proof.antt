@@ -7,11 +7,13 @@ use lib.IntN.{ℤ}
 use lib.ListN.{length, take, drop}
 use borrow.Author.Needs.{needs}
 use borrow.Author.Tests.{leb-false}
-use Rattle.zones.specs.Numbers.{ListedZones}
+use Rattle.zones.specs.declared.state.HintState.{HintState}
+use Rattle.zones.specs.Numbers.{stateIn}
+use Rattle.zones.proofs.Listing.{state-is}
 use Rattle.run.specs.Kept.{Spare}
 use Rattle.labels.specs.Glyphs.{Glyph, glyph, glyphsOf, recordsOf}
 use Rattle.labels.specs.Labels.{headerOf}
-use Rattle.labels.specs.Measured.{sizeOf, Settable, setAt}
+use Rattle.labels.specs.Measured.{sizeOf, Settable, GlyphSet}
 use Rattle.labels.proofs.Walking.{walk, both-there, first-positive, words-there, bytes-there, lent-glyph}
 use Rattle.labels.proofs.Laying.{laidFrom}
 use Rattle.labels.proofs.Rooms.{sum-least}
@@ -20,19 +22,22 @@ use Rattle.labels.proofs.filling.fill.Statement.{statement}
 use Rattle.labels.proofs.filling.fill.Tie as tie
 
 abbrev Inv-loop : tie.InvT-loop
-Inv-loop commands masks lengths state out₀ zones initial₀ map₀ tags₀ notes₀ next₀ at₀ word₀ byte₀ out initial map tags
+Inv-loop commands masks lengths out₀ zones gauge initial₀ map₀ tags₀ notes₀ next₀ at₀ word₀ byte₀ out initial map tags
     notes next at word byte =
-    Filling lengths commands masks state out₀ next at word byte out ×
-    (ListedZones state zones × Spare initial map tags notes)
+    Filling lengths commands masks (stateIn gauge zones) out₀ next at word byte out × Spare initial map tags notes
 
 abbrev μ-loop : tie.MeasureT-loop
-μ-loop commands masks lengths state out₀ zones initial₀ map₀ tags₀ notes₀ next₀ at₀ word₀ byte₀ out initial map tags
+μ-loop commands masks lengths out₀ zones gauge initial₀ map₀ tags₀ notes₀ next₀ at₀ word₀ byte₀ out initial map tags
     notes next at word byte =
     length lengths - at
 
+-- the numbers and the list of zones that glyphs are lent
+abbrev lent-state : tie.After-gauge Inv-loop μ-loop → HintState
+lent-state g = stateIn (g .gauge .result) (g .before .list .last .1 .0)
+
 put-two-requires : tie.Need-put-two-requires Inv-loop μ-loop
 put-two-requires c κs =
-    let s = c .before .before .before .before in
+    let s = c .before .before .before .before .before in
     let gs = glyphsOf (s .args .lengths .now) (s .args .commands .now) (s .args .masks .now) in
     let w = walk (s .args .lengths .now) (s .args .commands .now) (s .args .masks .now) (s .pre .counted) in
     let least = sum-least (headerOf (length gs)) (map sizeOf gs) in
@@ -40,14 +45,11 @@ put-two-requires c κs =
 
 loop-holds : tie.Need-loop-holds Inv-loop μ-loop
 loop-holds c =
-    let a = c .before .before .before .before .before .before .args in
-    let f = filling (a .lengths .now) (a .commands .now) (a .masks .now) (a .state) (c .before .put-two .last .0)
-    (rw (c .before .put-two .kept .0) (c .before .before .before .before .before .before .pre)) in (
-      f,
-      (
-        c .before .before .before .list .ensures,
-        record { whole = record { all = refl; named = refl }; current = refl; notes = refl },
-      ),
+    let s = c .before .before .before .before .before .before .before in
+    let a = s .args in (
+      filling (a .lengths .now) (a .commands .now) (a .masks .now) (lent-state (c .before .before .before))
+          (c .before .put-two .last .0) (rw (c .before .put-two .kept .0) (s .pre)),
+      record { whole = record { all = refl; named = refl }; current = refl; notes = refl },
     )
 
 -- at a glyph, whose two lengths are read
@@ -56,7 +58,7 @@ module _ (c : tie.After-size-at2 Inv-loop μ-loop) where
   turn = c .before .before .before
 
   abbrev begin : tie.Start Inv-loop μ-loop
-  begin = turn .before .before .before .before .before .before .before
+  begin = turn .before .before .before .before .before .before .before .before
 
   there : turn .loop .at < length (begin .args .lengths .now)
   there = c .before .before .loop-test .taken
@@ -93,7 +95,7 @@ module _ (c : tie.After-size-at2 Inv-loop μ-loop) where
 add-words-end : tie.Need-add-words-end Inv-loop μ-loop
 add-words-end c =
     let t = c .before .before in
-    let s = t .before .before .before .before .before .before .before in
+    let s = t .before .before .before .before .before .before .before .before in
     omega (arith, s .good .0, t .loop .inv .0 .walks .ofWords, c .size-at .ensures .1 .0)
 
 add-bytes-end : tie.Need-add-bytes-end Inv-loop μ-loop
@@ -110,21 +112,16 @@ module _ (c : tie.After-fill-glyph Inv-loop μ-loop) where
   abbrev lengths : tie.After-size-at2 Inv-loop μ-loop
   lengths = c .before .before .before .before .before .before .before .before .before
 
-  set : (c .fill-glyph .result ≡ length (recordsOf (begin lengths .args .state) (here lengths))) ×
-      (c .fill-glyph .last .1 .1 .1 .1 .1 .1 .1 .1 .0 ≡
-      setAt (begin lengths .args .state) (here lengths) (2 + turn lengths .loop .at) (turn lengths .loop .next)
-      (turn lengths .loop .out))
-  set =
-      let t = turn lengths .loop in
-      let st = begin lengths .args .state in
-      subst (λ (g : Glyph). (c .fill-glyph .result ≡ length (recordsOf st g)) ×
-      (c .fill-glyph .last .1 .1 .1 .1 .1 .1 .1 .1 .0 ≡ setAt st g (2 + t .at) (t .next) (t .out)))
-      (lent lengths) (c .fill-glyph .ensures .0)
+  set : GlyphSet (lent-state (turn lengths .before .before .before .before)) (here lengths)
+      (2 + turn lengths .loop .at) (turn lengths .loop .next) (turn lengths .loop .out) (c .fill-glyph .result)
+      (c .fill-glyph .last .1 .1 .1 .1 .1 .1 .1 .1 .0)
+  set = rw (lent lengths) at (c .fill-glyph .ensures .0)
 
 add-next-2 : tie.Need-add-next-2 Inv-loop μ-loop
 add-next-2 c =
     let l = lengths (c .before) in
-    omega (arith, ready l .word, set (c .before) .0, size-is (begin l .args .state) (here l))
+    let st = lent-state (turn l .before .before .before .before) in
+    omega (arith, ready l .word, set (c .before) .size, size-is st (here l))
 
 loop-again : tie.Need-loop-again Inv-loop μ-loop
 loop-again c =
@@ -132,8 +129,8 @@ loop-again c =
     let l = lengths g in
     let n = l .before .size-at .ensures .0 in
     let b = l .size-at2 .ensures .0 in (
-      rw (set g .1) (onward-filling (turn l .loop .inv .0) (there l) n b (set g .0)),
-      (turn l .loop .inv .1 .0, g .fill-glyph .ensures .1),
+      rw (set g .memory) (onward-filling (turn l .loop .inv .0) (there l) n b (set g .size)),
+      g .fill-glyph .ensures .1,
     )
 
 same-length : tie.Need-same-length Inv-loop μ-loop
@@ -142,20 +139,22 @@ same-length c = c .before .loop .inv .0 .same ∙ c .before .before .before .put
 returns : tie.Need-returns Inv-loop μ-loop
 returns c =
     let p = c .before .before .before in
-    let s = p .before .before .before .before .before in
+    let g = p .before .before in
+    let s = g .before .before .before .before in
     let a = s .args in
     let gs = glyphsOf (a .lengths .now) (a .commands .now) (a .masks .now) in
+    let m = 2 + length (a .lengths .now) in
     filled (c .before .loop .inv .0) (omega arith) ∙
-    ap (λ (l : List ℤ). laidFrom 2 (2 + length (a .lengths .now)) (map (recordsOf (a .state)) gs) l)
-    (p .put-two .ensures) ∙
+    ap (λ (st : HintState). laidFrom 2 m (map (recordsOf st) gs) (p .put-two .last .0))
+    (state-is (a .state) _ _ (g .gauge .ensures) (g .before .list .ensures)) ∙
+    ap (laidFrom 2 m (map (recordsOf (a .state)) gs)) (p .put-two .ensures) ∙
     laid-result (a .lengths .now) (a .commands .now) (a .masks .now) (a .state) (a .out .now) (s .pre)
 
 pub fill-spec : {M : Type 1} → statement M
 fill-spec =
     tie.close
-    (tie.spec Inv-loop μ-loop (λ c κs. search needs) put-two-requires (λ c. search needs) loop-holds
-    (λ c κs. c .loop-test .taken)
-    add-words-end (λ c. search needs)
+    (tie.spec Inv-loop μ-loop (λ c κs. search needs) (λ c κs. search needs) put-two-requires (λ c. search needs)
+    loop-holds (λ c κs. c .loop-test .taken) add-words-end (λ c. search needs)
     (λ c κs. both-there (c .before .before .loop .inv .0 .walks) (c .before .loop-test .taken)) add-bytes-end
     (λ c. omega arith) (λ c. omega arith) (λ c. inside c .1) (λ c. search needs) (λ c. omega arith) (λ c. omega arith)
     (λ c. inside (c .before) .0) (λ c. search needs) fill-glyph-requires add-next-2 (λ c. search needs)

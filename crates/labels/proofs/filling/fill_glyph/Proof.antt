@@ -8,6 +8,8 @@ use lib.IntN.{ℤ, pos}
 use lib.ListN.{length, take, drop}
 use borrow.Author.Needs.{needs}
 use borrow.Rule.Slice.PartMut.{putMid, same-len-mid}
+use Rattle.zones.specs.declared.state.HintState.{HintState}
+use Rattle.zones.specs.Numbers.{stateIn}
 use Rattle.pen.proofs.Lent.{lent, back}
 use Rattle.words.specs.Bytes.{placed}
 use Rattle.words.proofs.Placing.{placed-length}
@@ -21,6 +23,9 @@ module _ (c : tie.After-run-given) where
   abbrev begin : tie.Start
   begin = c .before .before .before .before .before .before .before
 
+  abbrev state : HintState
+  state = stateIn (begin .args .gauge) (begin .args .zones .now)
+
   abbrev given : Glyph
   given = glyph (begin .args .words .now) (begin .args .masks .now)
 
@@ -30,11 +35,11 @@ module _ (c : tie.After-run-given) where
   abbrev next : ℕ
   next = begin .args .next
 
-  ran : (c .run-given .result .words ≡ length (recordsOf (begin .args .state) given)) ×
+  ran : (c .run-given .result .words ≡ length (recordsOf state given)) ×
       (putMid next (length out - next) out (c .run-given .last .1 .1 .1 .1 .1 .1 .1 .1 .0) ≡
-      placed out next (recordsOf (begin .args .state) given))
+      placed out next (recordsOf state given))
   ran =
-      let r = ran-whole (begin .args .state) given out next (begin .pre .0 .fits)
+      let r = ran-whole state given out next (begin .pre .0 .fits)
       (rw (lent out next) at (c .run-given .ensures .0)) in
       (r .0, back next out _ ∙ r .1)
 
@@ -61,8 +66,8 @@ put-two-requires : tie.Need-put-two-requires
 put-two-requires c κs =
     let r = c .before .before in
     let p = begin r .pre .0 in
-    let n = size-is (begin r .args .state) (given r) in
-    let l = placed-length (out r) (next r) (recordsOf (begin r .args .state) (given r)) (omega (arith, n, p .fits)) in (
+    let n = size-is (state r) (given r) in
+    let l = placed-length (out r) (next r) (recordsOf (state r) (given r)) (omega (arith, n, p .fits)) in (
       omega (arith, ap length (ran r .1), l, p .before, p .fits),
       (omega (arith, p .word), omega (arith, ran r .0, n, p .word)),
     )
@@ -82,9 +87,9 @@ returns c =
     let e = t .put-two .ensures ∙
     ap (λ (l : List ℤ). placed l (begin r .args .slot) (pos (next r) ∷ pos (r .run-given .result .words) ∷ []))
     (ran r .1) ∙
-    ap (λ (k : ℕ). placed (placed (out r) (next r) (recordsOf (begin r .args .state) (given r)))
+    ap (λ (k : ℕ). placed (placed (out r) (next r) (recordsOf (state r) (given r)))
     (begin r .args .slot) (pos (next r) ∷ pos k ∷ [])) (ran r .0) in
-    ((ran r .0, e), r .run-given .ensures .1)
+    (record { size = ran r .0; memory = e }, r .run-given .ensures .1)
 
 pub fill-glyph-spec : {M : Type 1} → statement M
 fill-glyph-spec =

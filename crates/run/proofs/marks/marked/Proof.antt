@@ -8,6 +8,7 @@ use lib.IntN.{ℤ, pos}
 use lib.ListN.{length, length-replicate}
 use Rattle.stems.specs.declared.mask.HintMask.{HintMask}
 use Rattle.zones.specs.declared.state.HintState.{HintState}
+use Rattle.zones.specs.Numbers.{stateIn}
 use Rattle.hints.specs.declared.hints.Hints.{Hints}
 use Rattle.hints.specs.Hints.{withMask, countered}
 use Rattle.hints.specs.Calls.{hintsOf}
@@ -19,13 +20,16 @@ use Rattle.run.proofs.Clearing.{cleared-kept}
 use Rattle.run.proofs.marks.marked.Statement.{statement}
 use Rattle.run.proofs.marks.marked.Tie as tie
 
+-- the state
+abbrev state-of : tie.Start → HintState
+state-of s = stateIn (s .args .gauge) (s .args .zones .now)
+
 -- what a command of a kind leaves, it leaves
 module _ (s : tie.Start) {m : Marking} (e : s .args .marking ≡ m) (h : Hints) (z : Sizes) (bs : List ℕ)
     (ns is ms : List ℤ) where
   abbrev After : Marking → Type 0
   After x =
-      Kept (s .args .state) (hintsOf (s .args .state) h (markCall (s .args .script .now) (s .args .from) x)) z bs ns is
-      ms
+      Kept (state-of s) (hintsOf (state-of s) h (markCall (s .args .script .now) (s .args .from) x)) z bs ns is ms
 
   told : After m → After (s .args .marking)
   told k = subst After (sym e) k
@@ -47,7 +51,7 @@ returns c =
         twelve = s .pre .0 .twelve;
         kept = λ h ms k. told s (c .enum-told .given .1) h _ _ _ _ ms k;
       },
-      s .pre .1 .1,
+      s .pre .1,
     )
 
 returns-2 : tie.Need-returns-2
@@ -59,9 +63,9 @@ returns-2 c =
         whole = s .pre .0 .build .whole;
         long = k .long;
         twelve = s .pre .0 .twelve;
-        kept = λ h ms q. told s (m .marking .given .1) h _ _ _ _ ms (k .kept (s .args .state) h _ _ ms q);
+        kept = λ h ms q. told s (m .marking .given .1) h _ _ _ _ ms (k .kept (state-of s) h _ _ ms q);
       },
-      s .pre .1 .1,
+      s .pre .1,
     )
 
 mask-at-requires : tie.Need-mask-at-requires
@@ -80,9 +84,9 @@ returns-3 c =
         long = s .pre .0 .build .long;
         twelve = k .twelve;
         kept = λ h ms q. told s (m .marking2 .given .1) h _ _ _ _ ms
-            (masked-as (s .args .state) h _ _ _ _ ms (a .mask-at .ensures) (k .kept (s .args .state) h _ _ ms q));
+            (masked-as (state-of s) h _ _ _ _ ms (a .mask-at .ensures) (k .kept (state-of s) h _ _ ms q));
       },
-      s .pre .1 .1,
+      s .pre .1,
     )
 
 mask-at-requires-2 : tie.Need-mask-at-requires-2
@@ -101,7 +105,7 @@ returns-4 c =
         long = k .build .long;
         twelve = s .pre .0 .twelve;
         kept = λ h ms q. told s (m .marking3 .given .1) h _ _ _ _ ms
-            (countered-as (s .args .state) h _ _ _ _ ms (a .mask-at2 .ensures) (k .kept h _ ms q));
+            (countered-as (state-of s) h _ _ _ _ ms (a .mask-at2 .ensures) (k .kept h _ ms q));
       },
       c .counter .ensures .1,
     )
@@ -117,9 +121,9 @@ returns-5 c =
         long = ap length (k .none) ∙ length-replicate 480 (pos 0);
         twelve = ap length (k .all);
         kept = λ h ms q. told s (m .enum-told2 .given .1) h _ _ _ _ ms
-            (rw (c .none .ensures) (cleared-kept (s .args .state) _ ms k));
+            (rw (c .none .ensures) (cleared-kept (state-of s) _ ms k));
       },
-      s .pre .1 .1,
+      s .pre .1,
     )
 
 returns-6 : tie.Need-returns-6
@@ -131,7 +135,7 @@ returns-6 c =
         twelve = s .pre .0 .twelve;
         kept = λ h ms k. told s (c .enum-told3 .given .1) h _ _ _ _ ms k;
       },
-      s .pre .1 .1,
+      s .pre .1,
     )
 
 pub marked-spec : {M : Type 1} → statement M

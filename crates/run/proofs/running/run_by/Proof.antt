@@ -9,12 +9,13 @@ use lib.ListN.{length, drop, length-drop}
 use borrow.Author.Tests.{leb-true}
 use borrow.Author.Needs.{needs}
 use borrow.Rule.Slice.PartMut.{putMid, same-len-mid}
+use Rattle.zones.specs.Numbers.{stateIn}
 use Rattle.pen.specs.declared.strokes.Path.{Path}
 use Rattle.pen.specs.Drawn.{Drew}
 use Rattle.pen.proofs.Lent.{lent, back}
 use Rattle.pen.proofs.Drew.{drew-wrote, drew-refused}
 use Rattle.hints.specs.Path.{hasPoint, strokeBy}
-use Rattle.build.specs.Made.{Serving}
+use Rattle.build.specs.Made.{NoteRoom}
 use Rattle.commands.specs.declared.reading.Read.{Read}
 use Rattle.commands.specs.declared.reading.Command.the-variants.{Mark, Draw}
 use Rattle.commands.specs.Commands.{readAt, nextAt}
@@ -28,13 +29,13 @@ use Rattle.run.proofs.running.run_by.Statement.{statement}
 use Rattle.run.proofs.running.run_by.Tie as tie
 
 abbrev Inv-loop : tie.InvT-loop
-Inv-loop script part words as-words first n from state zones initial₀ map₀ tags₀ notes₀ out₀ mask₀ stems₀ sizes₀ pen₀
+Inv-loop script part words as-words first n from gauge zones initial₀ map₀ tags₀ notes₀ out₀ mask₀ stems₀ sizes₀ pen₀
     next₀ at₀ initial map tags notes out mask stems sizes pen next at =
-    Running state script (wordBy as-words part words) first n from out₀ mask stems initial map tags sizes pen next at
-    out × Serving state zones notes
+    Running (stateIn gauge zones) script (wordBy as-words part words) first n from out₀ mask stems initial map tags
+    sizes pen next at out × NoteRoom notes
 
 abbrev μ-loop : tie.MeasureT-loop
-μ-loop script part words as-words first n from state zones initial₀ map₀ tags₀ notes₀ out₀ mask₀ stems₀ sizes₀ pen₀
+μ-loop script part words as-words first n from gauge zones initial₀ map₀ tags₀ notes₀ out₀ mask₀ stems₀ sizes₀ pen₀
     next₀ at₀ initial map tags notes out mask stems sizes pen next at =
     2 * (n - at) + unready (sizes .valid)
 
@@ -55,7 +56,7 @@ spare : (l : tie.At-loop Inv-loop μ-loop) →
     Spare (l .loop .initial) (l .loop .map) (l .loop .tags) (l .loop .notes)
 spare l =
     let m = mappable _ _ _ _ _ _ _ _ _ _ _ _ _ _ _ _ _ (l .loop .inv .0) in
-    record { whole = m .build .whole; current = m .current; notes = l .loop .inv .1 .1 }
+    record { whole = m .build .whole; current = m .current; notes = l .loop .inv .1 }
 
 -- the command that was read, and the word behind it
 module _ (c : tie.After-read-by Inv-loop μ-loop) where
@@ -101,7 +102,7 @@ module _ (c : tie.After-draw-by-lines Inv-loop μ-loop) where
   abbrev call-turn : tie.At-loop Inv-loop μ-loop
   call-turn = draw-turn asked
 
-  drew : Drew (strokeBy (call-turn .loop .inv .0 .hints .map) (begin call-turn .args .state .scale)
+  drew : Drew (strokeBy (call-turn .loop .inv .0 .hints .map) (begin call-turn .args .gauge .scale)
       (call-turn .loop .pen) (path asked)) (call-turn .loop .pen) (drop (call-turn .loop .next) (call-turn .loop .out))
       (c .draw-by-lines .result) (c .draw-by-lines .last .1 .1 .1 .1 .1 .1 .0)
   drew =
@@ -125,9 +126,9 @@ loop-holds c =
     let s = c .before .before .before .before in
     let a = s .args in (
       rw (c .before .none .ensures, c .new .ensures)
-          (starts (a .state) (a .script .now) _ (a .first) (a .n) (a .from) (a .out .now) _ _ _ (s .pre .1 .0)
-          (s .pre .1 .1 .1 .whole) (s .pre .1 .1 .1 .current)),
-      (s .pre .1 .1 .0, s .pre .1 .1 .1 .notes),
+          (starts (stateIn (a .gauge) (a .zones .now)) (a .script .now) _ (a .first) (a .n) (a .from) (a .out .now) _ _
+          _ (s .pre .1 .0) (s .pre .1 .1 .whole) (s .pre .1 .1 .current)),
+      s .pre .1 .1 .notes,
     )
 
 read-by-requires : tie.Need-read-by-requires Inv-loop μ-loop
@@ -176,7 +177,7 @@ loop-again-2 c =
       rw (moved r)
           (marks _ _ _ _ _ _ _ _ _ _ _ _ _ _ _ _ _ (i .0) (r .before .loop-test .taken) _ _ _ _ _ (mark-is m)
           (c .marked .ensures .0)),
-      (i .1 .0, c .marked .ensures .1),
+      c .marked .ensures .1,
     )
 
 ready-requires : tie.Need-ready-requires Inv-loop μ-loop
@@ -203,7 +204,7 @@ loop-again-3 c =
     let i = draw-turn w .loop .inv in (
       readies _ _ _ _ _ _ _ _ _ _ _ _ _ _ _ _ _ (i .0) (draw-read w .before .loop-test .taken) _ _ _ _ _ (draw-is w)
           (want c .1) (want c .0) (c .ready .ensures .0),
-      (i .1 .0, c .ready .ensures .1),
+      c .ready .ensures .1,
     )
 
 -- what is left of the output is where it was
@@ -253,7 +254,7 @@ add-next c =
         arith,
         q .count,
         leb-true (length
-            (strokeBy (l .loop .inv .0 .hints .map) (begin l .args .state .scale) (l .loop .pen) (path (asked d))
+            (strokeBy (l .loop .inv .0 .hints .map) (begin l .args .gauge .scale) (l .loop .pen) (path (asked d))
             .words))
             (length (drop (l .loop .next) (l .loop .out))) (q .fit),
         length-drop (l .loop .next) (l .loop .out),

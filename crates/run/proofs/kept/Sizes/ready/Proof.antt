@@ -1,6 +1,7 @@
 -- `Sizes::ready` meets its contract, by those of its calls. Assumes nothing.
 use borrow.Author.Needs.{needs}
 use mathlib.Core.Path.{refl, _∙_}
+use Rattle.zones.specs.Numbers.{stateIn}
 use Rattle.run.proofs.Building.{ready-kept, twelve-bytes}
 use Rattle.run.proofs.kept.Sizes.ready.Statement.{statement}
 use Rattle.run.proofs.kept.Sizes.ready.Tie as tie
@@ -12,7 +13,7 @@ returns c =
     let b = i .with-initial .ensures .0 in
     let m = c .make-map .ensures .0 in
     let s = i .before .before .before .before .before in
-    let a = s .args in
+    let st = stateIn (s .args .gauge) (s .args .zones .now) in
     let e = n .new .ensures ∙ twelve-bytes _ (s .pre .0 .twelve) in (
       record {
         map = record {
@@ -25,7 +26,7 @@ returns c =
           twelve = s .pre .0 .twelve;
         };
         valid = refl;
-        kept = λ h ms v k. ready-kept (a .state) h _ _ _ _ ms _ _ _ _ (k .map .valid ∙ v) (b .kept h _ ms k)
+        kept = λ h ms v k. ready-kept st h _ _ _ _ ms _ _ _ _ (k .map .valid ∙ v) (b .kept h _ ms k)
             (rw e at m);
       },
       c .make-map .ensures .1,
