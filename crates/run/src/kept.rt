@@ -29,8 +29,8 @@ ghost use Rattle.run.specs.Kept.{Mappable, Readied};
 pub struct Sizes {
     pub stems: usize,
     pub initial: usize,
-    pub based: bool,
     pub map: usize,
+    pub based: bool,
     pub valid: bool,
 }
 
