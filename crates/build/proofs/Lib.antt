@@ -4,6 +4,7 @@ pub mod Locking
 pub mod Turns
 pub mod Making
 pub mod Saved
+pub mod Declared
 pub mod Sound
 pub mod Once
 pub mod Used

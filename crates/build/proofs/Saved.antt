@@ -113,12 +113,12 @@ in-at e ss k h = go (e .synthetic) (eqb (e .index) k) refl
     go false true q = rw (eqb-true (e .index) k q) (getD-set-same (ss .list) k (savedStem e (stemAt ss k)) noStem h)
     go false false q = getD-set-other (ss .list) (e .index) k _ noStem (λ w. eqb-false (e .index) k q (sym w))
 
-all-length : (es : List Hint) (ss : Stems) → length (savedAll es ss .list) ≡ length (ss .list)
+pub all-length : (es : List Hint) (ss : Stems) → length (savedAll es ss .list) ≡ length (ss .list)
 unfolding savedAll
 all-length [] ss = refl
 all-length (e ∷ es) ss = all-length es (savedIn e ss) ∙ in-length e ss
 
-all-count : (es : List Hint) (ss : Stems) → savedAll es ss .count ≡ ss .count
+pub all-count : (es : List Hint) (ss : Stems) → savedAll es ss .count ≡ ss .count
 unfolding savedAll
 all-count [] ss = refl
 all-count (e ∷ es) ss = all-count es (savedIn e ss) ∙ in-count e ss
@@ -130,6 +130,12 @@ unfolding savedAll after
 all-at [] ss k h = refl
 all-at (e ∷ es) ss k h =
     all-at es (savedIn e ss) k (rw (in-length e ss) h) ∙ ap (after k es) (in-at e ss k h)
+
+-- ---- which stems it depends on
+-- where two lists have the same stem k, they have the same one after all edges
+pub all-alike : (es : List Hint) (ss ss′ : Stems) (k : ℕ) → k < length (ss .list) → k < length (ss′ .list) →
+    stemAt ss k ≡ stemAt ss′ k → stemAt (savedAll es ss) k ≡ stemAt (savedAll es ss′) k
+all-alike es ss ss′ k h g e = all-at es ss k h ∙ ap (after k es) e ∙ sym (all-at es ss′ k g)
 
 -- ---- what is kept
 -- a stem has the ends that another has

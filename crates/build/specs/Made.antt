@@ -54,6 +54,12 @@ pub record Freed (s : Fixed) (ss : Stems) (ls : List ℤ) (ts : List ℕ) (n : �
   pub map : (st : HintState) (initial : HintMap) → st .scale ≡ s → initial .scale ≡ s₀ → LinesOf initial base size →
       mapIn ls′ ts′ n′ s ≡ freeTurns st initial 0 (declaredIn ss) (placedIn ls ts n s rest) .map
 
+-- as many stems are declared, and the same ones; those past them may differ
+pub record SameDeclared (ss ss′ : Stems) : Type 0 where
+  pub count : ss .count ≡ ss′ .count
+  pub room : length (ss .list) ≡ length (ss′ .list)
+  pub declared : declaredIn ss ≡ declaredIn ss′
+
 -- the heights of a map's edges, saved
 pub record SavedIn (ns : List ℤ) (ls : List ℤ) (ts : List ℕ) (n : ℕ) (ns′ : List ℤ) : Type 0 where
   pub long : length ns′ ≡ 480

@@ -4,6 +4,7 @@ use crate::measure::FIXED_HEADER;
 use run::run_given;
 use stems::LINES;
 use stems::MAX_HINTS;
+use stems::STEM_NUMBERS;
 use stems::TAGS;
 use zones::Gauge;
 use zones::HintState;
@@ -42,6 +43,7 @@ fn fill_glyph(
     words: &[i32],
     gauge: Gauge,
     zones: &[i32; ZONE_NUMBERS],
+    stems: &mut [i32; STEM_NUMBERS],
     initial: &mut [i32; LINES],
     map: &mut [i32; LINES],
     tags: &mut [u8; TAGS],
@@ -51,16 +53,17 @@ fn fill_glyph(
     next: usize,
 ) -> usize
     requires { ⌜ Settable (glyph (now words) (now masks)) slot next (length (now out)) ×
-        Spare (now initial) (now map) (now tags) (now notes) ⌝ }
+        Spare (now stems) (now initial) (now map) (now tags) (now notes) ⌝ }
     ensures { λ r. ⌜ GlyphSet (stateIn gauge (now (zones .entry))) (glyph (now (words .entry)) (now (masks .entry)))
         slot next (now (out .entry)) r (now (out .exit)) ×
-        Spare (now (initial .exit)) (now (map .exit)) (now (tags .exit)) (now (notes .exit)) ⌝ }
+        Spare (now (stems .exit)) (now (initial .exit)) (now (map .exit)) (now (tags .exit)) (now (notes .exit)) ⌝ }
 {
     let ran = run_given(
         masks,
         words,
         gauge,
         zones,
+        stems,
         initial,
         map,
         tags,
@@ -71,8 +74,8 @@ fn fill_glyph(
     ran.words
 }
 
-// Glyphs that pass all tests, into an output that has room for them. The zones are listed
-// once, and the lists for the maps serve one glyph behind the other.
+// Glyphs that pass all tests, into an output that has room for them. The zones are listed once, and the
+// lists for stems and maps serve one glyph behind the other.
 pub(crate) fn fill(
     commands: &[i32],
     masks: &[u8],
@@ -87,6 +90,7 @@ pub(crate) fn fill(
     let mut zones = [0i32; ZONE_NUMBERS];
     state.list(&mut zones);
     let gauge = state.gauge();
+    let mut stems = [0i32; STEM_NUMBERS];
     let mut initial = [0i32; LINES];
     let mut map = [0i32; LINES];
     let mut tags = [0u8; TAGS];
@@ -104,6 +108,7 @@ pub(crate) fn fill(
             &commands[word..words_end],
             gauge,
             &zones,
+            &mut stems,
             &mut initial,
             &mut map,
             &mut tags,

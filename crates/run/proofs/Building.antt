@@ -17,7 +17,8 @@ use Rattle.hintmap.specs.Lent.{mapIn, LinesOf}
 use Rattle.hintmap.proofs.Lent.{view-map}
 use Rattle.build.specs.declared.map.Built.{Built}
 use Rattle.build.specs.Build.{initialOf, builtOf}
-use Rattle.build.specs.Made.{MadeInitial, MadeMap}
+use Rattle.build.specs.Made.{SameDeclared, MadeInitial, MadeMap}
+use Rattle.build.proofs.Declared.{initial-alike, map-alike, stems-alike}
 use Rattle.build.proofs.Sound.{initial-valid, built-valid, initial-scale, built-scale}
 use Rattle.hints.specs.declared.hints.Hints.{Hints}
 use Rattle.hints.specs.Hints.{initialBy, withInitial, builtFrom, builtIn, countered, readyBy, readyOf}
@@ -59,21 +60,25 @@ module _ (st : HintState) where
         (record {
           stems = k .stems;
           mask = k .mask;
-          initial = rw (k .stems) (initial-kept (stemsIn ns (z .stems)) n ls ts m);
+          initial =
+              rw (initial-alike (h .stems) (stemsIn ns (z .stems)) (k .stems) st)
+              (initial-kept (stemsIn ns (z .stems)) n ls ts m);
           map = k .map;
         })
 
     -- a map that was built from these hints, and their stems after it
     module _ (mask : HintMask) (n : ℕ) (ls : List ℤ) (ts : List ℕ) (ns′ : List ℤ)
         (m : MadeMap st mask ns (z .stems) is (z .initial) (st .scale) n ls ts ns′) where
-      made : _≡_ {A = Built} (record { map = validMap (mapIn ls ts n (st .scale)); stems = stemsIn ns′ (z .stems) })
-          (builtFrom st mask h)
-      made =
-          m .built (h .initial) (k .initial .scale) (k .initial .lines) ∙
-          ap (builtOf st mask (h .initial)) (sym (k .stems))
+      abbrev ss : Stems
+      ss = stemsIn ns (z .stems)
 
-      built-stems : builtFrom st mask h .stems ≡ stemsIn ns′ (z .stems)
-      built-stems = sym (ap (λ (b : Built). b .stems) made)
+      made : _≡_ {A = Built} (record { map = validMap (mapIn ls ts n (st .scale)); stems = stemsIn ns′ (z .stems) })
+          (builtOf st mask (h .initial) ss)
+      made = m .built (h .initial) (k .initial .scale) (k .initial .lines)
+
+      built-stems : SameDeclared (builtFrom st mask h .stems) (stemsIn ns′ (z .stems))
+      built-stems =
+          rw (ap (λ (b : Built). b .stems) made) (stems-alike (h .stems) ss (k .stems) st mask (h .initial))
 
       built-kept : KeptMap (st .scale) (builtFrom st mask h .map) ls n true
       built-kept =
@@ -81,6 +86,7 @@ module _ (st : HintState) where
             lines = record {
               tags = ts;
               edges =
+                  ap view (map-alike (h .stems) ss (k .stems) st mask (h .initial)) ∙
                   sym (ap (λ (b : Built). view (b .map)) made) ∙ view-map ls ts n (m .lent .fits) (st .scale);
             };
             fits = m .lent .fits;

@@ -5,7 +5,7 @@ use mathlib.Core.Path.{_≡_, refl, sym, ap, subst, _∙_}
 use mathlib.Core.Bool.{false, true}
 use mathlib.Core.List.{List, _++_}
 use Prim.Native.Nat.{ℕ, _+_, _<_}
-use lib.IntN.{ℤ, pos}
+use lib.IntN.{ℤ}
 use lib.ListN.{length, take, drop, replicate, take-append-drop}
 use Rattle.stems.specs.Lists.{Whole}
 use Rattle.zones.specs.declared.state.HintState.{HintState}
@@ -22,7 +22,7 @@ use Rattle.commands.specs.declared.reading.Command.the-variants.{Mark, Draw}
 use Rattle.commands.specs.Commands.{readAt, nextAt}
 use Rattle.run.specs.declared.kept.Sizes.{Sizes}
 use Rattle.run.specs.Run.{Runnable, wantsMap, isClose}
-use Rattle.run.specs.Kept.{noSizes, Kept, Mappable, Marked, Readied}
+use Rattle.run.specs.Kept.{noSizes, Kept, Spare, Mappable, Marked, Readied}
 use Rattle.run.proofs.Clearing.{cleared-kept}
 use Rattle.run.proofs.Turns.{Going, going, Gives, close-idle, turn-mark, turn-ready, turn-drew, turn-refused}
 
@@ -38,16 +38,16 @@ module _ (st : HintState) (s : List ℕ) (w : ℕ → ℕ) (first n from : ℕ) 
     pub twelve : length bs ≡ 12
 
   -- before the first command
-  pub starts : (is ms : List ℤ) (ts : List ℕ) → Runnable s w first n from → Whole is ts → length ms ≡ 288 →
-      Running (replicate 12 255) (replicate 480 (pos 0)) is ms ts noSizes newPen 0 0 out₀
-  starts is ms ts r l c =
+  pub starts : (ns is ms : List ℤ) (ts : List ℕ) (by : List ℤ) → Runnable s w first n from → Spare ns is ms ts by →
+      Running (replicate 12 255) ns is ms ts noSizes newPen 0 0 out₀
+  starts ns is ms ts by r p =
       record {
         hints = _;
         goes = going st s w first n from r out₀;
-        kept = cleared-kept st is ms (record { all = refl; none = refl });
-        whole = l;
-        long = refl;
-        current = c;
+        kept = cleared-kept st ns is ms refl;
+        whole = p .whole;
+        long = p .long;
+        current = p .current;
         twelve = refl;
       }
 

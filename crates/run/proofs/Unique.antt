@@ -33,10 +33,10 @@ module _ (κs : Lfts 3) (a : ArgsD run.signature κs) (r r′ : ResD run.signatu
   run-unique p q =
       (ran (says-is (p .answer) ∙ sym (says-is (q .answer))) (p .words ∙ sym (q .words)), p .memory ∙ sym (q .memory))
 
-module _ (κs : Lfts 8) (a : ArgsD run-given.signature κs) (r r′ : ResD run-given.signature κs)
-    (x x′ : AtExit (endedOf 8 run-given-kinds.ps run-given-kinds.r) κs) where
+module _ (κs : Lfts 9) (a : ArgsD run-given.signature κs) (r r′ : ResD run-given.signature κs)
+    (x x′ : AtExit (endedOf 9 run-given-kinds.ps run-given-kinds.r) κs) where
   pub run-given-unique : run-given-reads.Post κs a r x → run-given-reads.Post κs a r′ x′ →
-      (r ≡ r′) × (now (x .1 .1 .1 .1 .1 .1 .1 .1 .0) ≡ now (x′ .1 .1 .1 .1 .1 .1 .1 .1 .0))
+      (r ≡ r′) × (now (x .1 .1 .1 .1 .1 .1 .1 .1 .1 .0) ≡ now (x′ .1 .1 .1 .1 .1 .1 .1 .1 .1 .0))
   run-given-unique p q =
       let e = p .0 in
       let f = q .0 in

@@ -4,8 +4,8 @@ use mathlib.Core.Path.{_≡_}
 use mathlib.Core.Bool.{Bool, true, false}
 use mathlib.Core.List.{List}
 use Prim.Native.Nat.{ℕ, _+_, _≤_}
-use lib.IntN.{ℤ, pos}
-use lib.ListN.{length, replicate}
+use lib.IntN.{ℤ}
+use lib.ListN.{length}
 use Rattle.fixed.specs.declared.Fixed.{Fixed}
 use Rattle.stems.specs.declared.mask.HintMask.{HintMask}
 use Rattle.stems.specs.Edge.{maxHints}
@@ -14,7 +14,7 @@ use Rattle.stems.specs.Lists.{Whole, stemsIn}
 use Rattle.zones.specs.declared.state.HintState.{HintState}
 use Rattle.hintmap.specs.declared.map.HintMap.{HintMap}
 use Rattle.hintmap.specs.Lent.{Rises, LinesOf}
-use Rattle.build.specs.Made.{NoteRoom}
+use Rattle.build.specs.Made.{SameDeclared, NoteRoom}
 use Rattle.hints.specs.declared.hints.Hints.{Hints}
 use Rattle.hints.specs.Hints.{withStem, withMask, withInitial, countered, readyOf}
 use Rattle.hints.specs.Calls.{hintsOf}
@@ -33,9 +33,10 @@ pub record KeptMap (s : Fixed) (m : HintMap) (ls : List ℤ) (n : ℕ) (built : 
   pub scale : m .scale ≡ s
   pub valid : m .«is_valid» ≡ built
 
--- the hints that lists keep: of stems, of the mask's bytes, and of the lines of both maps
+-- the hints that lists keep: of the stems that are declared, of the mask's bytes, and of the lines of
+-- both maps
 pub record Kept (st : HintState) (h : Hints) (z : Sizes) (bs : List ℕ) (ns is ms : List ℤ) : Type 0 where
-  pub stems : h .stems ≡ stemsIn ns (z .stems)
+  pub stems : SameDeclared (h .stems) (stemsIn ns (z .stems))
   pub mask : h .mask ≡ ofBytes bs
   pub initial : KeptMap (st .scale) (h .initial) is (z .initial) (z .based)
   pub map : KeptMap (st .scale) (h .map) ms (z .map) (z .valid)
@@ -51,11 +52,6 @@ pub record Masked (z : Sizes) (bs : List ℕ) (given : HintMask) (z′ : Sizes) 
   pub twelve : length bs′ ≡ maskSize
   pub kept : (st : HintState) (h : Hints) (ns is ms : List ℤ) → Kept st h z bs ns is ms →
       Kept st (withMask given h) z′ bs′ ns is ms
-
--- every stem active, and none declared
-pub record Cleared (bs : List ℕ) (ns : List ℤ) : Type 0 where
-  pub all : bs ≡ replicate maskSize 255
-  pub none : ns ≡ replicate 480 (pos 0)
 
 -- the initial map made, where it is not
 pub record Based (st : HintState) (z : Sizes) (is ns : List ℤ) (z′ : Sizes) (is′ : List ℤ) (ts′ : List ℕ) : Type 0 where
@@ -77,8 +73,9 @@ pub record Countered (st : HintState) (m : HintMask) (z : Sizes) (is ns : List �
   pub kept : (h : Hints) (bs : List ℕ) (ms : List ℤ) → Kept st h z bs ns is ms →
       Kept st (countered st m h) z′ bs ns′ is′ ms
 
--- lists in which the maps of a run can be built, whatever they hold
-pub record Spare (is ms : List ℤ) (ts : List ℕ) (by : List ℤ) : Type 0 where
+-- lists in which a run can keep its stems and build its maps, whatever they hold
+pub record Spare (ns is ms : List ℤ) (ts : List ℕ) (by : List ℤ) : Type 0 where
+  pub long : length ns ≡ 480
   pub whole : Whole is ts
   pub current : length ms ≡ 288
   pub notes : NoteRoom by

@@ -1,5 +1,6 @@
 // The hints of a run, kept in lists: its stems, the present mask and the lines of both maps. A command
-// changes them where they lie. Tags and notes are lent for a build, and mean nothing between two.
+// changes them where they lie. What lies past the declared stems and past a map's length is not read.
+// Tags and notes are lent for a build, and mean nothing between two.
 use build::make_initial;
 use build::make_map;
 use fixed::Fixed;
@@ -15,13 +16,13 @@ use zones::Gauge;
 use zones::ZONE_NUMBERS;
 ghost use mathlib.Core.Path.{_≡_};
 ghost use Prim.Native.Nat.{_≤_};
-ghost use lib.ListN.{length};
+ghost use lib.ListN.{length, replicate};
 ghost use Rattle.stems.specs.Edge.{maxHints};
 ghost use Rattle.stems.specs.Mask.{maskSize};
 ghost use Rattle.stems.specs.Lists.{Whole};
 ghost use Rattle.zones.specs.Numbers.{stateIn};
 ghost use Rattle.build.specs.Made.{NoteRoom};
-ghost use Rattle.run.specs.Kept.{noSizes, Stemmed, Masked, Cleared, Based, Buildable, Countered};
+ghost use Rattle.run.specs.Kept.{noSizes, Stemmed, Masked, Based, Buildable, Countered};
 ghost use Rattle.run.specs.Kept.{Mappable, Readied};
 
 // How many stems there are, how long the initial map and the current one are, and whether each is
@@ -34,16 +35,13 @@ pub struct Sizes {
     pub valid: bool,
 }
 
-// Hints with no stem and no map: every stem is active.
-pub(crate) fn clear_lists(mask: &mut [u8; HINT_MASK_SIZE], stems: &mut [i32; STEM_NUMBERS])
-    requires { ⌜ (length (now mask) ≡ maskSize) × (length (now stems) ≡ 480) ⌝ }
-    ensures { λ r. ⌜ Cleared (now (mask .exit)) (now (stems .exit)) ⌝ }
+// A mask by which every stem is active.
+pub(crate) fn mask_to_all(mask: &mut [u8; HINT_MASK_SIZE])
+    requires { ⌜ length (now mask) ≡ maskSize ⌝ }
+    ensures { λ r. ⌜ now (mask .exit) ≡ replicate maskSize 255 ⌝ }
 {
     for i in 0..HINT_MASK_SIZE {
         mask[i] = 255;
-    }
-    for i in 0..STEM_NUMBERS {
-        stems[i] = 0;
     }
 }
 

@@ -1,6 +1,6 @@
 // The commands that write nothing, and the masks that they name.
 use crate::kept::Sizes;
-use crate::kept::clear_lists;
+use crate::kept::mask_to_all;
 use commands::Marking;
 use stems::HINT_MASK_SIZE;
 use stems::HintMask;
@@ -64,7 +64,7 @@ pub(crate) fn marked(
             sizes.counter(initial, tags, gauge, zones, given, stems, notes)
         }
         Marking::Clear => {
-            clear_lists(mask, stems);
+            mask_to_all(mask);
             Sizes::none()
         }
         Marking::Close => sizes,

@@ -86,6 +86,7 @@ fn run_by(
     from: usize,
     gauge: Gauge,
     zones: &[i32; ZONE_NUMBERS],
+    stems: &mut [i32; STEM_NUMBERS],
     initial: &mut [i32; LINES],
     map: &mut [i32; LINES],
     tags: &mut [u8; TAGS],
@@ -94,13 +95,13 @@ fn run_by(
 ) -> Ran
     requires { ⌜ ThereBy as_words (now part) (now words) n ×
         (Runnable (now script) (wordBy as_words (now part) (now words)) first n from ×
-        Spare (now initial) (now map) (now tags) (now notes)) ⌝ }
+        Spare (now stems) (now initial) (now map) (now tags) (now notes)) ⌝ }
     ensures { λ r. ⌜ Ended (ranOf (stateIn gauge (now (zones .entry))) (callsOf (now (script .entry)) from
         (commandsOf first (wordBy as_words (now (part .entry)) (now (words .entry))) n)) (now (out .entry))) r
-        (now (out .exit)) × Spare (now (initial .exit)) (now (map .exit)) (now (tags .exit)) (now (notes .exit)) ⌝ }
+        (now (out .exit)) ×
+        Spare (now (stems .exit)) (now (initial .exit)) (now (map .exit)) (now (tags .exit)) (now (notes .exit)) ⌝ }
 {
     let mut mask = [255u8; HINT_MASK_SIZE];
-    let mut stems = [0i32; STEM_NUMBERS];
     let mut sizes = Sizes::none();
     let mut pen = Pen::new();
     let mut next = 0;
@@ -122,7 +123,7 @@ fn run_by(
                     gauge,
                     zones,
                     &mut mask,
-                    &mut stems,
+                    stems,
                     initial,
                     tags,
                     notes,
@@ -131,7 +132,7 @@ fn run_by(
             }
             Command::Draw(path) => {
                 if wants_map(path, sizes.valid) {
-                    sizes = sizes.ready(map, initial, tags, gauge, zones, &mask, &mut stems, notes);
+                    sizes = sizes.ready(map, initial, tags, gauge, zones, &mask, stems, notes);
                     continue;
                 }
                 let scale = gauge.scale;
@@ -182,6 +183,7 @@ pub fn run(
 {
     let mut zones = [0i32; ZONE_NUMBERS];
     state.list(&mut zones);
+    let mut stems = [0i32; STEM_NUMBERS];
     let mut initial = [0i32; LINES];
     let mut map = [0i32; LINES];
     let mut tags = [0u8; TAGS];
@@ -196,6 +198,7 @@ pub fn run(
         from,
         state.gauge(),
         &zones,
+        &mut stems,
         &mut initial,
         &mut map,
         &mut tags,
@@ -205,12 +208,13 @@ pub fn run(
 }
 
 // Runs all of some words, which are commands with the masks of some bytes. A state's numbers and its
-// zones, listed once, serve any number of runs, and so do the lists that are lent for the maps.
+// zones, listed once, serve any number of runs, and so do the lists that are lent for stems and maps.
 pub fn run_given(
     masks: &[u8],
     words: &[i32],
     gauge: Gauge,
     zones: &[i32; ZONE_NUMBERS],
+    stems: &mut [i32; STEM_NUMBERS],
     initial: &mut [i32; LINES],
     map: &mut [i32; LINES],
     tags: &mut [u8; TAGS],
@@ -218,10 +222,11 @@ pub fn run_given(
     out: &mut [i32],
 ) -> Ran
     requires { ⌜ Runnable (now masks) (givenWord (now words)) 0 (length (now words)) 0 ×
-        Spare (now initial) (now map) (now tags) (now notes) ⌝ }
+        Spare (now stems) (now initial) (now map) (now tags) (now notes) ⌝ }
     ensures { λ r. ⌜ Ended (ranOf (stateIn gauge (now (zones .entry))) (callsOf (now (masks .entry)) 0
         (commandsOf 0 (givenWord (now (words .entry))) (length (now (words .entry))))) (now (out .entry))) r
-        (now (out .exit)) × Spare (now (initial .exit)) (now (map .exit)) (now (tags .exit)) (now (notes .exit)) ⌝ }
+        (now (out .exit)) ×
+        Spare (now (stems .exit)) (now (initial .exit)) (now (map .exit)) (now (tags .exit)) (now (notes .exit)) ⌝ }
 {
     run_by(
         masks,
@@ -233,6 +238,7 @@ pub fn run_given(
         0,
         gauge,
         zones,
+        stems,
         initial,
         map,
         tags,

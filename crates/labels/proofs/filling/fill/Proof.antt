@@ -22,13 +22,14 @@ use Rattle.labels.proofs.filling.fill.Statement.{statement}
 use Rattle.labels.proofs.filling.fill.Tie as tie
 
 abbrev Inv-loop : tie.InvT-loop
-Inv-loop commands masks lengths out₀ zones gauge initial₀ map₀ tags₀ notes₀ next₀ at₀ word₀ byte₀ out initial map tags
-    notes next at word byte =
-    Filling lengths commands masks (stateIn gauge zones) out₀ next at word byte out × Spare initial map tags notes
+Inv-loop commands masks lengths out₀ zones gauge stems₀ initial₀ map₀ tags₀ notes₀ next₀ at₀ word₀ byte₀ out stems
+    initial map tags notes next at word byte =
+    Filling lengths commands masks (stateIn gauge zones) out₀ next at word byte out ×
+    Spare stems initial map tags notes
 
 abbrev μ-loop : tie.MeasureT-loop
-μ-loop commands masks lengths out₀ zones gauge initial₀ map₀ tags₀ notes₀ next₀ at₀ word₀ byte₀ out initial map tags
-    notes next at word byte =
+μ-loop commands masks lengths out₀ zones gauge stems₀ initial₀ map₀ tags₀ notes₀ next₀ at₀ word₀ byte₀ out stems
+    initial map tags notes next at word byte =
     length lengths - at
 
 -- the numbers and the list of zones that glyphs are lent
@@ -49,7 +50,7 @@ loop-holds c =
     let a = s .args in (
       filling (a .lengths .now) (a .commands .now) (a .masks .now) (lent-state (c .before .before .before))
           (c .before .put-two .last .0) (rw (c .before .put-two .kept .0) (s .pre)),
-      record { whole = record { all = refl; named = refl }; current = refl; notes = refl },
+      record { long = refl; whole = record { all = refl; named = refl }; current = refl; notes = refl },
     )
 
 -- at a glyph, whose two lengths are read
@@ -103,18 +104,18 @@ add-bytes-end c = omega (arith, begin c .good .1 .0, turn c .loop .inv .0 .walks
 
 fill-glyph-requires : tie.Need-fill-glyph-requires Inv-loop μ-loop
 fill-glyph-requires c κs =
-    let l = c .before .before .before .before .before .before .before .before in
+    let l = c .before .before .before .before .before .before .before .before .before in
     let t = turn l .loop in
     (subst (λ (g : Glyph). Settable g (2 + t .at) (t .next) (length (t .out))) (sym (lent l)) (ready l), t .inv .1)
 
 -- the glyph is set
 module _ (c : tie.After-fill-glyph Inv-loop μ-loop) where
   abbrev lengths : tie.After-size-at2 Inv-loop μ-loop
-  lengths = c .before .before .before .before .before .before .before .before .before
+  lengths = c .before .before .before .before .before .before .before .before .before .before
 
   set : GlyphSet (lent-state (turn lengths .before .before .before .before)) (here lengths)
       (2 + turn lengths .loop .at) (turn lengths .loop .next) (turn lengths .loop .out) (c .fill-glyph .result)
-      (c .fill-glyph .last .1 .1 .1 .1 .1 .1 .1 .1 .0)
+      (c .fill-glyph .last .1 .1 .1 .1 .1 .1 .1 .1 .1 .0)
   set = rw (lent lengths) at (c .fill-glyph .ensures .0)
 
 add-next-2 : tie.Need-add-next-2 Inv-loop μ-loop

@@ -21,7 +21,7 @@ use Rattle.labels.proofs.filling.fill_glyph.Tie as tie
 -- the run has room for all of the glyph's records
 module _ (c : tie.After-run-given) where
   abbrev begin : tie.Start
-  begin = c .before .before .before .before .before .before .before
+  begin = c .before .before .before .before .before .before .before .before
 
   abbrev state : HintState
   state = stateIn (begin .args .gauge) (begin .args .zones .now)
@@ -36,7 +36,7 @@ module _ (c : tie.After-run-given) where
   next = begin .args .next
 
   ran : (c .run-given .result .words ≡ length (recordsOf state given)) ×
-      (putMid next (length out - next) out (c .run-given .last .1 .1 .1 .1 .1 .1 .1 .1 .0) ≡
+      (putMid next (length out - next) out (c .run-given .last .1 .1 .1 .1 .1 .1 .1 .1 .1 .0) ≡
       placed out next (recordsOf state given))
   ran =
       let r = ran-whole state given out next (begin .pre .0 .fits)
@@ -44,14 +44,14 @@ module _ (c : tie.After-run-given) where
       (r .0, back next out _ ∙ r .1)
 
 -- the records start within the output
-inside : (c : tie.After-run-given-arg4) →
-    let a = c .before .before .before .before .before .args in a .next ≤ length (a .out .now)
-inside c = omega (arith, c .before .before .before .before .before .pre .0 .fits)
+inside : (c : tie.After-run-given-arg5) →
+    let a = c .before .before .before .before .before .before .args in a .next ≤ length (a .out .now)
+inside c = omega (arith, c .before .before .before .before .before .before .pre .0 .fits)
 
 run-given-requires : tie.Need-run-given-requires
 unfolding faultOf
 run-given-requires c κs =
-    let s = c .before .before .before .before .before .before in (
+    let s = c .before .before .before .before .before .before .before in (
       record {
         short = s .pre .0 .short;
         start = omega arith;
@@ -77,8 +77,8 @@ same-length c =
     let t = c .before in
     let r = t .before .before .before in
     t .put-two .kept .0 ∙
-    same-len-mid (next r) (length (out r) - next r) (out r) (r .run-given .last .1 .1 .1 .1 .1 .1 .1 .1 .0)
-    (r .run-given .kept .1 .1 .1 .1 .1 .1 .1 .1 .0)
+    same-len-mid (next r) (length (out r) - next r) (out r) (r .run-given .last .1 .1 .1 .1 .1 .1 .1 .1 .1 .0)
+    (r .run-given .kept .1 .1 .1 .1 .1 .1 .1 .1 .1 .0)
 
 returns : tie.Need-returns
 returns c =

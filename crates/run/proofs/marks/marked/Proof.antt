@@ -4,8 +4,8 @@ use mathlib.Core.Path.{_≡_, sym, ap, subst, _∙_}
 use mathlib.Core.List.{List}
 use Prim.Native.Nat.{ℕ}
 use native.Mathlib.Omega.{arith}
-use lib.IntN.{ℤ, pos}
-use lib.ListN.{length, length-replicate}
+use lib.IntN.{ℤ}
+use lib.ListN.{length}
 use Rattle.stems.specs.declared.mask.HintMask.{HintMask}
 use Rattle.zones.specs.declared.state.HintState.{HintState}
 use Rattle.zones.specs.Numbers.{stateIn}
@@ -113,15 +113,15 @@ returns-4 c =
 returns-5 : tie.Need-returns-5
 returns-5 c =
     let l = c .before in
-    let m = l .before .before .before in
+    let m = l .before .before in
     let s = m .before .before .before in
-    let k = l .clear-lists .ensures in (
+    let e = l .mask-to-all .ensures in (
       record {
         whole = s .pre .0 .build .whole;
-        long = ap length (k .none) ∙ length-replicate 480 (pos 0);
-        twelve = ap length (k .all);
+        long = s .pre .0 .build .long;
+        twelve = ap length e;
         kept = λ h ms q. told s (m .enum-told2 .given .1) h _ _ _ _ ms
-            (rw (c .none .ensures) (cleared-kept (state-of s) _ ms k));
+            (rw (c .none .ensures) (cleared-kept (state-of s) _ _ ms e));
       },
       s .pre .1,
     )

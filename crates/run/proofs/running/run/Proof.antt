@@ -8,13 +8,13 @@ use Rattle.run.proofs.running.run.Tie as tie
 
 run-by-requires : tie.Need-run-by-requires
 run-by-requires c κs =
-    let l = c .before .before .before .before .before .before .before .before in
+    let l = c .before .before .before .before .before .before .before .before .before in
     let p = l .before .before .before .before .pre in
-    (p .0, (p .1, record { whole = record { all = refl; named = refl }; current = refl; notes = refl }))
+    (p .0, (p .1, record { long = refl; whole = record { all = refl; named = refl }; current = refl; notes = refl }))
 
 returns : tie.Need-returns
 returns c =
-    let g = c .before .before .before .before .before .before .before .before in
+    let g = c .before .before .before .before .before .before .before .before .before in
     let l = g .before .before in
     let a = l .before .before .before .before .args in
     rw (state-is (a .state) _ _ (g .gauge .ensures) (l .list .ensures)) at (c .before .run-by .ensures .0)

@@ -29,14 +29,14 @@ use Rattle.run.proofs.running.run_by.Statement.{statement}
 use Rattle.run.proofs.running.run_by.Tie as tie
 
 abbrev Inv-loop : tie.InvT-loop
-Inv-loop script part words as-words first n from gauge zones initial₀ map₀ tags₀ notes₀ out₀ mask₀ stems₀ sizes₀ pen₀
-    next₀ at₀ initial map tags notes out mask stems sizes pen next at =
+Inv-loop script part words as-words first n from gauge zones stems₀ initial₀ map₀ tags₀ notes₀ out₀ mask₀ sizes₀ pen₀
+    next₀ at₀ stems initial map tags notes out mask sizes pen next at =
     Running (stateIn gauge zones) script (wordBy as-words part words) first n from out₀ mask stems initial map tags
     sizes pen next at out × NoteRoom notes
 
 abbrev μ-loop : tie.MeasureT-loop
-μ-loop script part words as-words first n from gauge zones initial₀ map₀ tags₀ notes₀ out₀ mask₀ stems₀ sizes₀ pen₀
-    next₀ at₀ initial map tags notes out mask stems sizes pen next at =
+μ-loop script part words as-words first n from gauge zones stems₀ initial₀ map₀ tags₀ notes₀ out₀ mask₀ sizes₀ pen₀
+    next₀ at₀ stems initial map tags notes out mask sizes pen next at =
     2 * (n - at) + unready (sizes .valid)
 
 -- the arguments, from a turn's start
@@ -49,14 +49,14 @@ words-of l = wordBy (begin l .args .as-words) (begin l .args .part .now) (begin 
 
 -- no output is longer than memory
 room : (l : tie.At-loop Inv-loop μ-loop) → length (begin l .args .out .now) * 4 < 9223372036854775808
-room l = omega (arith, begin l .good .1 .1 .1 .1 .1 .1 .1 .1 .1 .1 .1 .1 .1 .0)
+room l = omega (arith, begin l .good .1 .1 .1 .1 .1 .1 .1 .1 .1 .1 .1 .1 .1 .1 .0)
 
 -- the lists for the maps serve as they did
 spare : (l : tie.At-loop Inv-loop μ-loop) →
-    Spare (l .loop .initial) (l .loop .map) (l .loop .tags) (l .loop .notes)
+    Spare (l .loop .stems) (l .loop .initial) (l .loop .map) (l .loop .tags) (l .loop .notes)
 spare l =
     let m = mappable _ _ _ _ _ _ _ _ _ _ _ _ _ _ _ _ _ (l .loop .inv .0) in
-    record { whole = m .build .whole; current = m .current; notes = l .loop .inv .1 }
+    record { long = m .build .long; whole = m .build .whole; current = m .current; notes = l .loop .inv .1 }
 
 -- the command that was read, and the word behind it
 module _ (c : tie.After-read-by Inv-loop μ-loop) where
@@ -127,7 +127,7 @@ loop-holds c =
     let a = s .args in (
       rw (c .before .none .ensures, c .new .ensures)
           (starts (stateIn (a .gauge) (a .zones .now)) (a .script .now) _ (a .first) (a .n) (a .from) (a .out .now) _ _
-          _ (s .pre .1 .0) (s .pre .1 .1 .whole) (s .pre .1 .1 .current)),
+          _ _ _ (s .pre .1 .0) (s .pre .1 .1)),
       s .pre .1 .1 .notes,
     )
 

@@ -1,17 +1,19 @@
 -- `Sizes::with_stem` meets its contract, by its two tests: those of the hints that lists keep. Assumes
 -- nothing.
 use borrow.Author.Needs.{needs}
-use mathlib.Core.Path.{_≡_, sym, ap}
+use mathlib.Core.Path.{_≡_}
 use mathlib.Core.Bool.{Bool, true, false, _&&_, not}
 use mathlib.Core.List.{List}
 use Prim.Native.Nat.{ℕ, _+_}
 use lib.Dec.{ltb}
 use lib.IntN.{ℤ}
+use native.Mathlib.Omega.{arith}
 use borrow.Author.Tests.{lt-ltb, le-ltb}
 use Rattle.stems.specs.declared.edge.StemHint.{StemHint}
 use Rattle.stems.specs.Lists.{stemsIn}
-use Rattle.stems.proofs.Places.{stem-put, set-long}
+use Rattle.stems.proofs.Places.{stem-put, set-long, stems-long}
 use Rattle.zones.specs.declared.state.HintState.{HintState}
+use Rattle.build.proofs.Declared.{one-alike}
 use Rattle.hints.specs.declared.hints.Hints.{Hints}
 use Rattle.hints.specs.Hints.{withStem, stemBy, unusedStem}
 use Rattle.run.specs.Kept.{Kept, Stemmed}
@@ -25,7 +27,7 @@ module _ (s : tie.Start) where
       Kept st h (s .args .self) bs (s .args .stems .now) is ms →
       withStem (s .args .min) (s .args .max) h ≡ stemBy t (s .args .min) (s .args .max) h
   unfolding withStem stemsIn
-  asked t e k = rw (k .map .valid, k .stems, e)
+  asked t e k = rw (k .map .valid, k .stems .count, e)
 
   -- a stem that is not taken
   ignored : not (s .args .self .valid) && ltb (s .args .self .stems) 96 ≡ false →
@@ -45,9 +47,9 @@ returns-2 c =
       kept = λ st h bs is ms k. rw (asked s true (rw (c .before .before .before .if1 .left) (lt-ltb n 96 p)) k)
           record {
             stems =
-                rw (e, k .stems)
-                (ap (λ (xs : List StemHint). record { list = xs; count = n + 1 })
-                (sym (stem-put (s .args .stems .now) (s .pre) n p stem n)));
+                rw (e, stem-put (s .args .stems .now) (s .pre) n p stem (n + 1))
+                (one-alike (h .stems) (stemsIn (s .args .stems .now) n) (k .stems) stem
+                (omega (arith, k .stems .count, k .stems .room, stems-long (s .args .stems .now) n)));
             mask = k .mask;
             initial = k .initial;
             map = k .map;
