@@ -113,10 +113,14 @@ module _ (c : tie.After-fill-glyph Inv-loop μ-loop) where
   abbrev lengths : tie.After-size-at2 Inv-loop μ-loop
   lengths = c .before .before .before .before .before .before .before .before .before .before
 
-  set : GlyphSet (lent-state (turn lengths .before .before .before .before)) (here lengths)
-      (2 + turn lengths .loop .at) (turn lengths .loop .next) (turn lengths .loop .out) (c .fill-glyph .result)
+  abbrev Set : Glyph → Type 0
+  Set g =
+      GlyphSet (lent-state (turn lengths .before .before .before .before)) g (2 + turn lengths .loop .at)
+      (turn lengths .loop .next) (turn lengths .loop .out) (c .fill-glyph .result)
       (c .fill-glyph .last .1 .1 .1 .1 .1 .1 .1 .1 .1 .0)
-  set = rw (lent lengths) at (c .fill-glyph .ensures .0)
+
+  set : Set (here lengths)
+  set = subst Set (lent lengths) (c .fill-glyph .ensures .0)
 
 add-next-2 : tie.Need-add-next-2 Inv-loop μ-loop
 add-next-2 c =
