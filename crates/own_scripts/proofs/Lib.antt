@@ -4,3 +4,4 @@ pub mod InResult
 pub mod NotRefused
 pub mod OwnBytes
 pub mod Alone
+pub mod BothRuns

@@ -74,6 +74,14 @@ pub record Alone (l : Label) (out : List ℤ) (k : ℕ) : Type 0 where
   pub rest : drop (length (labelWords (recordsIn l))) (labelsOf l out .left) ≡
       drop (length (labelWords (recordsIn l))) out
 
+-- ---- what the two functions leave
+-- an own script run alone, where the label run left n words of records from word o on: it is answered
+-- OK, says as many record words, and has the same ones behind its header
+pub record SameLeft (o n : ℕ) (left : List ℤ) (said : Answer) (alone : List ℤ) : Type 0 where
+  pub ok : said ≡ Ok
+  pub words : getD alone 3 (pos 0) ≡ pos n
+  pub records : take n (drop 4 alone) ≡ take n (drop o left)
+
 -- ---- a glyph with a fault
 -- a place among command words, behind so many other words
 abbrev pub behind : ℕ → Answer → Answer
