@@ -26,7 +26,7 @@ ghost use Rattle.run.specs.Kept.{noSizes, Stemmed, Masked, Based, Builda
 ghost use Rattle.run.specs.Kept.{Mappable, Readied};
 
 // How many stems there are, how long the initial map and the current one are, and whether each is
-// built.
+// built. The two marks stand last, so that no gap between numbers is copied in odd parts.
 pub struct Sizes {
     pub stems: usize,
     pub initial: usize,
