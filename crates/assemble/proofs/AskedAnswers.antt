@@ -8,9 +8,9 @@ use native.Mathlib.Omega.{arith}
 use lib.Dec.{eqb, ltb}
 use lib.ListN.{length}
 use borrow.Author.Tests.{ltb-false, lt-ltb, le-ltb, eqb-true, eqb-false}
+use Rattle.fixed.proofs.Tests.{both-false}
 use Rattle.words.specs.Words.{rawAt}
 use Rattle.words.specs.Rows.{firstOr}
-use Rattle.header.proofs.Tests.{both-false}
 use Rattle.writer.specs.declared.write_answer.WriteAnswer.{WriteAnswer}
 use Rattle.writer.specs.declared.write_answer.WriteAnswer.the-variants.{Written, BadScale, BadBlues, BadCommand}
 use Rattle.writer.specs.declared.write_answer.WriteAnswer.the-variants.{BadMask, ScriptRoom}

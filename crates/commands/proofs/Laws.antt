@@ -4,6 +4,7 @@ use mathlib.Core.Bool.{Bool, true, false, cond, _||_, true≢false}
 use mathlib.Core.List.{List, [], _∷_, _++_}
 use Prim.Native.Nat.{ℕ, zero, suc, _+_, _-_, _≤_, _<_}
 use native.Mathlib.Omega.{arith}
+use lib.IntN.{ℤ}
 use lib.ListN.{length}
 use lib.Dec.{ltb, leb}
 use borrow.Author.Tests.{lt-ltb, le-ltb, ltb-true, ltb-false}
@@ -16,7 +17,7 @@ use Rattle.words.proofs.Answers.{refusal, is-ok, both-ok}
 use Rattle.commands.specs.declared.reading.Command.{Command}
 use Rattle.commands.specs.declared.reading.Command.the-variants.{Mark}
 use Rattle.commands.specs.declared.reading.Marking.the-variants.{Bad}
-use Rattle.commands.specs.Commands.{nextAt, commandOf, readAt, CommandAt, commandsFrom, commandsOf}
+use Rattle.commands.specs.Commands.{nextAt, commandOf, readAt, countBy, CommandAt, commandsFrom, commandsOf}
 use Rattle.commands.specs.Faults.{maskPast, isBad, hasBadMask, faultRows, commandRows}
 
 -- a mask that is not past its bytes ends among them
@@ -29,6 +30,11 @@ mask-inside start len bytes e =
     last true v w e = cc
     last false true w e = cc
     last false false w e = e
+
+-- there are no more words than bytes and given words
+pub count-most : (b : Bool) (part : List ℕ) (words : List ℤ) → countBy b part words ≤ length part + length words
+count-most true part words = omega arith
+count-most false part words = omega arith
 
 -- the word behind a command
 pub next-is : (w : ℕ → ℕ) (n i : ℕ) → readAt w n i .next ≡ nextAt w i

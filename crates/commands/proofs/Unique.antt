@@ -9,17 +9,25 @@ use denote.Triple.Clauses.{AtExit}
 use Rattle.words.specs.declared.answer.Answer.{Answer}
 use Rattle.words.proofs.Answers.{says-is}
 use Rattle.commands.specs.declared.reading.Command.{Command}
+use Rattle.commands.proofs.reading.read_by as read-by
+use Rattle.commands.proofs.reading.read_by.Kinds as read-by-kinds
+use Rattle.commands.proofs.reading.read_by.Reads as read-by-reads
 use Rattle.commands.proofs.reading.read_command as read-command
 use Rattle.commands.proofs.reading.read_command.Kinds as read-command-kinds
 use Rattle.commands.proofs.reading.read_command.Reads as read-command-reads
 use Rattle.commands.proofs.reading.operands.Reads as operands-reads
-use Rattle.commands.proofs.given.read_given as read-given
-use Rattle.commands.proofs.given.read_given.Kinds as read-given-kinds
-use Rattle.commands.proofs.given.read_given.Reads as read-given-reads
+use Rattle.commands.proofs.reading.read_given as read-given
+use Rattle.commands.proofs.reading.read_given.Kinds as read-given-kinds
+use Rattle.commands.proofs.reading.read_given.Reads as read-given-reads
 use Rattle.commands.proofs.faults.fault_in.Reads as fault-in-reads
 use Rattle.commands.proofs.faults.check_commands as check-commands
 use Rattle.commands.proofs.faults.check_commands.Kinds as check-commands-kinds
 use Rattle.commands.proofs.faults.check_commands.Reads as check-commands-reads
+
+module _ (κs : Lfts 2) (a : ArgsD read-by.signature κs) (r r′ : ResD read-by.signature κs)
+    (x x′ : AtExit (endedOf 2 read-by-kinds.ps read-by-kinds.r) κs) where
+  pub read-by-unique : read-by-reads.Post κs a r x → read-by-reads.Post κs a r′ x′ → r ≡ r′
+  read-by-unique p q = p ∙ sym q
 
 module _ (κs : Lfts 1) (a : ArgsD read-command.signature κs) (r r′ : ResD read-command.signature κs)
     (x x′ : AtExit (endedOf 1 read-command-kinds.ps read-command-kinds.r) κs) where

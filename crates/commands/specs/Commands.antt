@@ -1,12 +1,14 @@
 -- The commands of a script (01, "The script"), read from words, whatever gives them; a script's are
 -- rawAt of its bytes.
-use mathlib.Core.Bool.{cond}
+use mathlib.Core.Bool.{Bool, true, false, cond}
 use mathlib.Core.List.{List, [], _∷_}
-use Prim.Native.Nat.{ℕ, zero, suc, _+_}
+use Prim.Native.Nat.{ℕ, zero, suc, _+_, _/_}
 use lib.Dec.{eqb, ltb}
+use lib.IntN.{ℤ}
+use lib.ListN.{length}
 use Rattle.pen.specs.declared.strokes.Point.{Point}
 use Rattle.pen.specs.declared.strokes.Path.the-variants.{Move, Line, Curve, Finish}
-use Rattle.words.specs.Words.{numberAt}
+use Rattle.words.specs.Words.{rawAt, givenWord, numberAt}
 use Rattle.commands.specs.declared.reading.Marking.the-variants.{Bad, Stem, Mask, Counter, Clear, Close}
 use Rattle.commands.specs.declared.reading.Command.{Command}
 use Rattle.commands.specs.declared.reading.Command.the-variants.{Mark, Draw}
@@ -42,6 +44,16 @@ nextAt w i = i + 1 + operandsOf (w i)
 -- the command at word i of n: bad where its operands are cut off
 unfoldable pub readAt : (ℕ → ℕ) → ℕ → ℕ → Read
 readAt w n i = record { command = cond (ltb n (nextAt w i)) (Mark Bad) (commandOf w i (w i)); next = nextAt w i }
+
+-- words are a script's, or given as a list
+abbrev pub wordBy : Bool → List ℕ → List ℤ → ℕ → ℕ
+wordBy true part words = givenWord words
+wordBy false part words = rawAt part
+
+-- how many there are
+abbrev pub countBy : Bool → List ℕ → List ℤ → ℕ
+countBy true part words = length words
+countBy false part words = length part / 4
 
 -- a command, and the word of the script at which its kind stands
 pub record CommandAt : Type 0 where

@@ -1,28 +1,20 @@
 -- Opening a drawing without a script (01, after its table).
 use mathlib.Core.Path.{_≡_}
-use mathlib.Core.Bool.{Bool, true, false, _&&_}
+use mathlib.Core.Bool.{Bool, true, false}
 use Prim.Native.Nat.{ℕ}
-use lib.Dec.{leb}
 use lib.IntN.{pos}
 use lib.ListN.{replicate}
 use Rattle.fixed.specs.declared.Fixed.{Fixed}
 use Rattle.fixed.specs.Fixed.{fromBits, ZERO, ONE, lessF}
 use Rattle.zones.specs.declared.state.HintParams.{HintParams}
 use Rattle.zones.specs.declared.state.HintState.{HintState}
-use Rattle.zones.specs.Zones.{maxBlues, maxZones, noZone}
-use Rattle.zones.specs.State.{stateOf}
+use Rattle.zones.specs.Zones.{maxZones, noZone}
+use Rattle.zones.specs.State.{countsFit, stateOf}
 use Rattle.hints.specs.declared.drawing.Drawing.{Drawing}
 use Rattle.drawing.specs.declared.opening.Opening.{Opening}
 use Rattle.drawing.specs.declared.opening.Opening.the-variants.{Ok, BadScale, BadBlues}
 use Rattle.drawing.specs.declared.opening.Opened.{Opened}
 use Rattle.hints.specs.Calls.{newDrawing}
-
--- every list has at most seven pairs
-unfoldable pub countsFit : HintParams → Bool
-countsFit p =
-    leb (p .blues .count) maxBlues &&
-    (leb (p .«other_blues» .count) maxBlues &&
-    (leb (p .«family_blues» .count) maxBlues && leb (p .«family_other_blues» .count) maxBlues))
 
 -- scale 1.0, all else 0
 abbrev pub refusedState : HintState

@@ -7,10 +7,9 @@ use zones::BlueZone;
 use zones::HintParams;
 use zones::HintState;
 use zones::MAX_BLUE_ZONES;
-use zones::MAX_BLUES;
 ghost use mathlib.Core.Path.{_≡_};
 ghost use Rattle.hints.specs.Calls.{newDrawing};
-ghost use Rattle.drawing.specs.Open.{refusedState, refusedBy, countsFit, openOf, Opens};
+ghost use Rattle.drawing.specs.Open.{refusedState, refusedBy, openOf, Opens};
 
 // How opening ended.
 pub enum Opening {
@@ -33,26 +32,6 @@ fn new_drawing(scale: Fixed) -> Drawing
     let hints = Hints::new(scale);
     let pen = Pen::new();
     Drawing { hints, pen }
-}
-
-// Every list has at most seven pairs.
-fn counts_fit(params: HintParams) -> bool
-    ensures { λ r. ⌜ r ≡ countsFit params ⌝ }
-{
-    let blues = params.blues;
-    let others = params.other_blues;
-    let family = params.family_blues;
-    let family_others = params.family_other_blues;
-    if MAX_BLUES < blues.count {
-        return false;
-    }
-    if MAX_BLUES < others.count {
-        return false;
-    }
-    if MAX_BLUES < family.count {
-        return false;
-    }
-    family_others.count <= MAX_BLUES
 }
 
 // The zones beside a refused opening: scale 1.0 and all else 0.
@@ -96,7 +75,7 @@ pub fn open(params: HintParams, scale: Fixed) -> Opened
     if scale.bits < 1 {
         return refused(Opening::BadScale);
     }
-    if !counts_fit(params) {
+    if !params.counts_fit() {
         return refused(Opening::BadBlues);
     }
     Opened {

@@ -14,13 +14,14 @@ use Rattle.fixed.specs.Integers.{signed}
 use Rattle.fixed.specs.Fixed.{fromBits, lessF}
 use Rattle.fixed.proofs.Ints.{ints}
 use Rattle.fixed.proofs.Order.{heights}
+use Rattle.fixed.proofs.Tests.{both-false}
 use Rattle.words.specs.declared.answer.Answer.the-variants.{Ok}
 use Rattle.words.specs.Words.{rawAt, negative, numberAt}
 use Rattle.words.specs.Answers.{firstOf}
 use Rattle.words.proofs.Rows.{Refusing, none-holds}
 use Rattle.header.specs.Header.{differs, padded, headerRows}
 use Rattle.header.specs.Params.{pairsIn, paramRows, WholeParams}
-use Rattle.header.proofs.Tests.{refusing, both-false, alike, long}
+use Rattle.header.proofs.Tests.{refusing, alike, long}
 
 -- what a script with a fine header has
 pub record Fine (s : List ℕ) : Type 0 where

@@ -1,13 +1,14 @@
 -- The way through a list of tests, and tests from facts on numbers and back. `omega tests` proves a
 -- test true or false. Assumes nothing.
 use mathlib.Core.Path.{_≡_, refl, sym, ap, _∙_}
-use mathlib.Core.Bool.{Bool, true, false, not, _&&_, _||_, true≢false}
+use mathlib.Core.Bool.{Bool, true, false, not, _&&_, _||_}
 use mathlib.Core.List.{List, [], _∷_}
 use Prim.Native.Nat.{ℕ, zero, suc, _%_, _^_, _≤_, _<_}
 use native.Mathlib.Omega.{arith}
 use lib.Dec.{eqb, ltb}
 use lib.ListN.{drop}
 use borrow.Author.Tests.{lt-ltb, le-ltb, lt-leb, eq-eqb, ne-eqb, ltb-true, ltb-false, eqb-true, not-false}
+use Rattle.fixed.proofs.Tests.{both, both-false}
 use Rattle.words.specs.declared.answer.Answer.{Answer}
 use Rattle.words.specs.declared.answer.Answer.the-variants.{Ok}
 use Rattle.words.specs.Rows.{Row, rowAt}
@@ -16,10 +17,6 @@ use Rattle.words.proofs.Rows.{hit, skip, Refusing}
 use Rattle.words.proofs.Answers.{refusal}
 use Rattle.header.specs.Header.{differs, outside, lengthBad}
 use Rattle.words.specs.Words.{negative}
-
-both-true : (a b : Bool) → (a && b) ≡ true → (a ≡ true) × (b ≡ true)
-both-true true b e = (refl, e)
-both-true false b e = absurd (true≢false (sym e))
 
 -- the first k tests do not hold
 pub record Past (rs : List (Row Answer)) (k : ℕ) : Type 0 where
@@ -40,8 +37,8 @@ refuses (r ∷ rs) = ltb 0 (numberOf (r .said)) && refuses rs
 pub refusing : (rs : List (Row Answer)) → refuses rs ≡ true → Refusing Ok rs
 refusing [] h k l = absurd (omega arith)
 refusing (r ∷ rs) h zero l =
-    refusal (ltb-true 0 (numberOf (r .said)) (both-true (ltb 0 (numberOf (r .said))) (refuses rs) h .0))
-refusing (r ∷ rs) h (suc k) l = refusing rs (both-true (ltb 0 (numberOf (r .said))) (refuses rs) h .1) k (omega arith)
+    refusal (ltb-true 0 (numberOf (r .said)) (both (ltb 0 (numberOf (r .said))) (refuses rs) h .0))
+refusing (r ∷ rs) h (suc k) l = refusing rs (both (ltb 0 (numberOf (r .said))) (refuses rs) h .1) k (omega arith)
 
 -- ---- either of two tests
 second : (a b : Bool) → b ≡ true → (a || b) ≡ true
@@ -53,10 +50,6 @@ neither a b e f = rw (e, f)
 
 pub alike : (a b : ℕ) → differs a b ≡ false → a ≡ b
 alike a b e = eqb-true a b (not-false (eqb a b) e)
-
-pub both-false : (a b : Bool) → (a || b) ≡ false → (a ≡ false) × (b ≡ false)
-both-false true b e = absurd (true≢false e)
-both-false false b e = (refl, e)
 
 -- ---- tests from facts
 pub same : (a b : ℕ) → a ≡ b → differs a b ≡ false

@@ -9,13 +9,13 @@ use lib.ListN.{length}
 use borrow.Author.Tests.{ltb-true}
 use Rattle.fixed.specs.declared.Fixed.{Fixed}
 use Rattle.fixed.specs.Fixed.{lessF}
+use Rattle.fixed.proofs.Tests.{both}
 use Rattle.stems.specs.declared.edge.Hint.{Hint}
 use Rattle.hintmap.specs.declared.map.HintMap.{HintMap}
 use Rattle.hintmap.specs.declared.insert.Edges.{Edges}
 use Rattle.hintmap.specs.declared.insert.Edges.the-variants.{One, Two}
 use Rattle.hintmap.specs.Map.{view}
 use Rattle.hintmap.specs.Insert.{firstEdge, edgesOf, mayEnter, again, placedBy, placedFor}
-use Rattle.hintmap.proofs.Tests.{both}
 
 -- there is room for all of it
 pub enters-room : (n : ℕ) (e : Edges) → mayEnter n e ≡ true → n + length (edgesOf e) ≤ 96

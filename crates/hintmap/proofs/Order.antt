@@ -11,6 +11,7 @@ use borrow.Author.Tests.{not-true}
 use Rattle.fixed.specs.declared.Fixed.{Fixed}
 use Rattle.fixed.specs.Fixed.{lessF, sameF, atMostF}
 use Rattle.fixed.proofs.Order.{heights}
+use Rattle.fixed.proofs.Tests.{both, both-false}
 use Rattle.stems.specs.declared.edge.Hint.{Hint}
 use Rattle.stems.specs.Edge.{noHint, isPairTop}
 use Rattle.hintmap.specs.declared.map.HintMap.{HintMap}
@@ -19,7 +20,6 @@ use Rattle.hintmap.specs.declared.insert.Edges.the-variants.{One, Two}
 use Rattle.hintmap.specs.Map.{view, countBy, leading, putAt, placeAmong, clearAhead}
 use Rattle.hintmap.specs.Insert.{firstEdge, edgesOf, mayEnter, bars, charClear, insertIn}
 use Rattle.hintmap.specs.WholeStems.{height, Ascends}
-use Rattle.hintmap.proofs.Tests.{both, neither}
 use Rattle.hintmap.proofs.Words.{cons-ascends}
 use Rattle.hintmap.proofs.Mapping.{tail-ascends}
 use Rattle.hintmap.proofs.Outcome.{by-outcome, view-placed}
@@ -42,8 +42,8 @@ unfolding bars clearAhead
 clear-top b t [] c l = absurd (omega arith)
 clear-top b t (x ∷ xs) c l =
     let o = isPairTop x || atMostF (height x) (height t) in
-    let p = neither (sameF (height x) (height b)) o (not-true (sameF (height x) (height b) || o) c) .1 in
-    let q : atMostF (height x) (height t) ≡ false = neither (isPairTop x) (atMostF (height x) (height t)) p .1 in
+    let p = both-false (sameF (height x) (height b)) o (not-true (sameF (height x) (height b) || o) c) .1 in
+    let q : atMostF (height x) (height t) ≡ false = both-false (isPairTop x) (atMostF (height x) (height t)) p .1 in
     let r : height t .bits ≤ℤ height x .bits = omega heights in
     r
 

@@ -11,6 +11,7 @@ use borrow.Author.Tests.{not-true}
 use Rattle.fixed.specs.declared.Fixed.{Fixed}
 use Rattle.fixed.specs.Fixed.{lessF, atMostF, sameF}
 use Rattle.fixed.proofs.Order.{heights, not-same}
+use Rattle.fixed.proofs.Tests.{both, both-false}
 use Rattle.stems.specs.declared.edge.Hint.{Hint}
 use Rattle.hintmap.specs.declared.map.HintMap.{HintMap}
 use Rattle.hintmap.specs.declared.insert.Edges.{Edges}
@@ -20,7 +21,6 @@ use Rattle.hintmap.specs.Map.{newMap, invalidMap, validMap, view, leadin
 use Rattle.hintmap.specs.Insert.{firstEdge, edgesOf, mayEnter, bars, charClear, putEdges, placeFor, placedFor}
 use Rattle.hintmap.specs.Insert.{insertIn}
 use Rattle.hintmap.specs.WholeStems.{height, Past, WholeStems, none, one, two, Made, Alike}
-use Rattle.hintmap.proofs.Tests.{both, neither}
 use Rattle.hintmap.proofs.Near.{place-below}
 use Rattle.hintmap.proofs.Alike.{alike-refl, alike-append, stems-alike}
 use Rattle.hintmap.proofs.Enter.{placed-enters}
@@ -54,17 +54,18 @@ front n (Two b t) s f xs p r =
 above : (e : Edges) (x : Hint) → lessF (height x) (height (firstEdge e)) ≡ false → bars x e ≡ false →
     height (top e) .bits <ℤ height x .bits
 unfolding bars top
-above (One y) x p q = apart (height x) (height y) p (neither _ (isPairTop x) q .0)
+above (One y) x p q = apart (height x) (height y) p (both-false _ (isPairTop x) q .0)
 above (Two b t) x p q =
     let u : atMostF (height x) (height t) ≡
-    false = neither (isPairTop x) _ (neither (sameF (height x) (height b)) _ q .1) .1 in
+    false = both-false (isPairTop x) _ (both-false (sameF (height x) (height b)) _ q .1) .1 in
     omega heights
 
 -- and no pair's top
 bars-top : (e : Edges) (x : Hint) → bars x e ≡ false → isPairTop x ≡ false
 unfolding bars
-bars-top (One y) x q = neither (sameF (height x) (height y)) _ q .1
-bars-top (Two b t) x q = neither _ (atMostF (height x) (height t)) (neither (sameF (height x) (height b)) _ q .1) .0
+bars-top (One y) x q = both-false (sameF (height x) (height y)) _ q .1
+bars-top (Two b t) x q =
+    both-false _ (atMostF (height x) (height t)) (both-false (sameF (height x) (height b)) _ q .1) .0
 
 -- what is put in above z stays above z
 past-put : (e : Edges) (z : Fixed) (es : List Hint) (at : ℕ) → Past z es → z .bits <ℤ height (firstEdge e) .bits →

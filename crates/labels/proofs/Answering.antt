@@ -62,7 +62,10 @@ fine-is (r ∷ rs) h z = by (r .fault) z (λ y. fine-is rs (h .1) y)
 
 open-refuse : (scale : Fixed) (p : HintParams) → Refuse (openRows scale p)
 unfolding openRows
-open-refuse scale p = (omega arith, (omega arith, (omega arith, (omega arith, (omega arith, tt)))))
+open-refuse scale p = (omega arith, (omega arith, tt))
+
+pub open-refusing : (scale : Fixed) (p : HintParams) → Refusing (Written 0) (openRows scale p)
+open-refusing scale p = refusing (openRows scale p) (open-refuse scale p)
 
 -- where none of them holds, the scale is 1 bit or more
 pub open-fine : (scale : Fixed) (p : HintParams) → labelNumber (firstOr (Written 0) (openRows scale p)) ≡ 0 →
@@ -72,7 +75,7 @@ open-fine scale p z =
     let rs = openRows scale p in
     let e = fine-is rs (open-refuse scale p) z in
     let t : lessF scale (fromBits (pos 1)) ≡ false =
-    none-holds (Written 0) rs (refusing rs (open-refuse scale p)) e 0 in
+    none-holds (Written 0) rs (open-refusing scale p) e 0 in
     (e, omega heights)
 
 -- ---- the answer
@@ -103,7 +106,7 @@ module _ (l : Label) (room : ℕ) where
         rw (e, result-is st gs, sizes-are st gs)
         (onward-else (Written 0) (Written (sumFrom (headerOf (length gs)) (map sizeOf gs)))
         (openRows (l .scale) (l .params)) (glyphRows 1 gs ++ roomRows room 0 (headerOf (length gs)) (map sizeOf gs))
-        (refusing (openRows (l .scale) (l .params)) (open-refuse (l .scale) (l .params))) o)
+        (open-refusing (l .scale) (l .params)) o)
 
 -- ---- what an answer that does not refuse leaves
 -- a fault refuses

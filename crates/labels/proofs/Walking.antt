@@ -11,7 +11,7 @@ use lib.ListN.{length, take, drop, getD, drop-of-length-le}
 use lib.Seq.{drop-cons, drop-drop}
 use borrow.Author.Tests.{ltb-false, eqb-true, eqb-false, not-false}
 use Rattle.fixed.specs.Integers.{bitsOf}
-use Rattle.header.proofs.Tests.{both-false}
+use Rattle.fixed.proofs.Tests.{both-false}
 use Rattle.labels.specs.Labels.{headerOf}
 use Rattle.labels.specs.Glyphs.{Glyph, glyph, glyphsOf, below0, anyNegative, everyOther, total, miscounted}
 

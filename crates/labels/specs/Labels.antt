@@ -1,7 +1,7 @@
 -- A label run (request 5): up to 64 glyphs under one set of parameters, and one result. Refusals in
 -- their order, with no word changed; or the result at the start of the output, whose rest stands.
 use mathlib.Core.Path.{_≡_}
-use mathlib.Core.Bool.{Bool, true, false}
+use mathlib.Core.Bool.{Bool, true, false, not}
 use mathlib.Core.List.{List, [], _∷_, _++_, map}
 use Prim.Native.Nat.{ℕ, min, _+_, _*_}
 use lib.Dec.{ltb}
@@ -11,8 +11,7 @@ use Rattle.fixed.specs.declared.Fixed.{Fixed}
 use Rattle.fixed.specs.Fixed.{fromBits, lessF}
 use Rattle.zones.specs.declared.state.HintParams.{HintParams}
 use Rattle.zones.specs.declared.state.HintState.{HintState}
-use Rattle.zones.specs.Zones.{maxBlues}
-use Rattle.zones.specs.State.{stateOf}
+use Rattle.zones.specs.State.{countsFit, stateOf}
 use Rattle.pen.specs.Records.{written}
 use Rattle.words.specs.Rows.{Row, row, firstOr}
 use Rattle.words.specs.Answers.{refuses}
@@ -60,14 +59,11 @@ unfoldable pub labelWords : List (List ℤ) → List ℤ
 labelWords wss = pos 1 ∷ pos (length wss) ∷ placesFrom (headerOf (length wss)) wss ++ joined wss
 
 -- ---- the tests
--- the scale, then the counts
+-- the scale, then the counts, as a drawing is opened without a script
 unfoldable pub openRows : Fixed → HintParams → List (Row LabelAnswer)
 openRows scale p =
     row (lessF scale (fromBits (pos 1))) BadScale ∷
-    row (ltb maxBlues (p .blues .count)) BadBlues ∷
-    row (ltb maxBlues (p .«other_blues» .count)) BadBlues ∷
-    row (ltb maxBlues (p .«family_blues» .count)) BadBlues ∷
-    row (ltb maxBlues (p .«family_other_blues» .count)) BadBlues ∷
+    row (not (countsFit p)) BadBlues ∷
     []
 
 -- the first faulty glyph from glyph k on, in it the first faulty command

@@ -5,13 +5,9 @@ use crate::label_answer::LabelAnswer;
 use crate::measure::measure;
 use fixed::Fixed;
 use fixed::least;
-use zones::Blues;
 use zones::HintParams;
 use zones::HintState;
-use zones::MAX_BLUES;
 ghost use mathlib.Core.Path.{_≡_};
-ghost use lib.Dec.{ltb};
-ghost use Rattle.zones.specs.Zones.{maxBlues};
 ghost use Rattle.words.specs.Rows.{firstOr};
 ghost use Rattle.labels.specs.declared.label_answer.LabelAnswer.the-variants.{Written};
 ghost use Rattle.labels.specs.Labels.{label, openRows, labelsOf, Labelled};
@@ -19,29 +15,14 @@ ghost use Rattle.labels.specs.Labels.{label, openRows, labelsOf, Labelle
 // The longest output that is looked at: every offset and length in it is a word.
 const MOST_ROOM: usize = 2147483647;
 
-fn too_many(blues: Blues) -> bool
-    ensures { λ r. ⌜ r ≡ ltb maxBlues (blues .count) ⌝ }
-{
-    MAX_BLUES < blues.count
-}
-
-// The scale and the four counts. `Written(0)` says that no test holds.
+// The scale and the counts. `Written(0)` says that no test holds.
 fn check_numbers(scale: Fixed, params: HintParams) -> LabelAnswer
     ensures { λ r. ⌜ r ≡ firstOr (Written 0) (openRows scale params) ⌝ }
 {
     if scale.bits < 1 {
         return LabelAnswer::BadScale;
     }
-    if too_many(params.blues) {
-        return LabelAnswer::BadBlues;
-    }
-    if too_many(params.other_blues) {
-        return LabelAnswer::BadBlues;
-    }
-    if too_many(params.family_blues) {
-        return LabelAnswer::BadBlues;
-    }
-    if too_many(params.family_other_blues) {
+    if !params.counts_fit() {
         return LabelAnswer::BadBlues;
     }
     LabelAnswer::Written(0)

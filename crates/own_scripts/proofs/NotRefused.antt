@@ -5,16 +5,18 @@ use mathlib.Core.Bool.{Bool, true, false}
 use mathlib.Core.List.{List, [], _∷_}
 use Prim.Native.Nat.{ℕ, zero, suc, _<_}
 use native.Mathlib.Omega.{arith}
-use lib.Dec.{eqb}
+use lib.Dec.{eqb, leb}
 use lib.IntN.{ℤ, pos}
 use lib.ListN.{length, getD}
-use borrow.Author.Tests.{eqb-true, eqb-false, ltb-false, not-false}
+use borrow.Author.Tests.{eqb-true, eqb-false, leb-true, not-false}
 use Rattle.fixed.specs.declared.Fixed.{Fixed}
 use Rattle.fixed.specs.Fixed.{fromBits, lessF}
+use Rattle.fixed.proofs.Tests.{both}
 use Rattle.zones.specs.declared.state.HintParams.{HintParams}
+use Rattle.zones.specs.State.{countsFit}
 use Rattle.words.specs.declared.answer.Answer.the-variants.{Ok}
 use Rattle.words.specs.Rows.{firstOr}
-use Rattle.words.proofs.Rows.{Refusing, none-holds}
+use Rattle.words.proofs.Rows.{none-holds}
 use Rattle.writer.specs.Refusals.{FineParams}
 use Rattle.labels.specs.declared.label_answer.LabelAnswer.{LabelAnswer}
 use Rattle.labels.specs.declared.label_answer.LabelAnswer.the-variants.{Written}
@@ -22,19 +24,9 @@ use Rattle.labels.specs.Answers.{labelNumber, labelRefuses}
 use Rattle.labels.specs.Glyphs.{Glyph, miscounted, faultOf}
 use Rattle.labels.specs.Labels.{Label, glyphsIn, openRows, roomIn, labelAnswer, labelsOf}
 use Rattle.labels.specs.Measured.{Faultless}
-use Rattle.labels.proofs.Answering.{open-fine, by-count, by-numbers, by-measure, measured-fine}
+use Rattle.labels.proofs.Answering.{open-refusing, open-fine, by-count, by-numbers, by-measure, measured-fine}
 
 -- ---- scale and counts
--- their tests refuse
-open-refusing : (scale : Fixed) (p : HintParams) → Refusing (Written 0) (openRows scale p)
-unfolding openRows
-open-refusing scale p zero l e = omega (arith, ap labelNumber e)
-open-refusing scale p (suc zero) l e = omega (arith, ap labelNumber e)
-open-refusing scale p (suc (suc zero)) l e = omega (arith, ap labelNumber e)
-open-refusing scale p (suc (suc (suc zero))) l e = omega (arith, ap labelNumber e)
-open-refusing scale p (suc (suc (suc (suc zero)))) l e = omega (arith, ap labelNumber e)
-open-refusing scale p (suc (suc (suc (suc (suc j))))) l e = absurd (omega (arith, l))
-
 -- the scale is 1 bit or more, and the counts are fine
 pub record Opened (scale : Fixed) (p : HintParams) : Type 0 where
   pub scaled : lessF scale (fromBits (pos 1)) ≡ false
@@ -42,17 +34,20 @@ pub record Opened (scale : Fixed) (p : HintParams) : Type 0 where
 
 -- where none of them holds
 pub opened : (scale : Fixed) (p : HintParams) → firstOr (Written 0) (openRows scale p) ≡ Written 0 → Opened scale p
-unfolding openRows
+unfolding openRows countsFit
 opened scale p e =
     let f = none-holds (Written 0) (openRows scale p) (open-refusing scale p) e in
+    let few = both (leb (p .blues .count) 7) _ (not-false (countsFit p) (f 1)) in
+    let others = both (leb (p .«other_blues» .count) 7) _ (few .1) in
+    let family = both (leb (p .«family_blues» .count) 7) _ (others .1) in
     record {
       scaled = f 0;
       params =
           record {
-            blues = ltb-false 7 (p .blues .count) (f 1);
-            others = ltb-false 7 (p .«other_blues» .count) (f 2);
-            family = ltb-false 7 (p .«family_blues» .count) (f 3);
-            familyOthers = ltb-false 7 (p .«family_other_blues» .count) (f 4);
+            blues = leb-true (p .blues .count) 7 (few .0);
+            others = leb-true (p .«other_blues» .count) 7 (others .0);
+            family = leb-true (p .«family_blues» .count) 7 (family .0);
+            familyOthers = leb-true (p .«family_other_blues» .count) 7 (family .1);
           };
     }
 

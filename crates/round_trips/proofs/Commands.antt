@@ -9,12 +9,13 @@ use native.Mathlib.Omega.{arith}
 use lib.Dec.{eqb, ltb}
 use lib.ListN.{length, getD, length-append}
 use borrow.Author.Tests.{ne-eqb, le-ltb, lt-leb}
+use Rattle.fixed.proofs.Tests.{both-false}
 use Rattle.words.specs.declared.answer.Answer.the-variants.{Ok}
 use Rattle.words.specs.Words.{rawAt, wordsFrom}
 use Rattle.words.specs.Answers.{firstOf}
 use Rattle.words.proofs.Words.{raw-drop, from-length}
 use Rattle.header.specs.Header.{outside}
-use Rattle.header.proofs.Tests.{both-false, high, before-end}
+use Rattle.header.proofs.Tests.{high, before-end}
 use Rattle.commands.specs.declared.reading.Marking.the-variants.{Bad}
 use Rattle.commands.specs.declared.reading.Command.the-variants.{Mark}
 use Rattle.commands.specs.Commands.{operandsOf, commandOf, nextAt, readAt, CommandAt, commandsFrom}

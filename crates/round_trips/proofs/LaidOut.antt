@@ -13,6 +13,7 @@ use borrow.Author.Tests.{eqb-true, not-false}
 use Rattle.fixed.specs.declared.Fixed.{Fixed}
 use Rattle.fixed.specs.Integers.{bitsOf}
 use Rattle.fixed.specs.Fixed.{fromBits, lessF}
+use Rattle.fixed.proofs.Tests.{both-false}
 use Rattle.zones.specs.declared.state.HintParams.{HintParams}
 use Rattle.words.specs.declared.answer.Answer.the-variants.{Ok}
 use Rattle.words.specs.Words.{rawAt, negative, wordsFrom}
@@ -24,7 +25,7 @@ use Rattle.words.proofs.Laid.{bytes-length}
 use Rattle.header.specs.Header.{differs, outside, allZero, padded, lengthBad, headerRows}
 use Rattle.header.specs.Params.{pairsIn, paramRows}
 use Rattle.header.proofs.Fine.{header-refusing, params-refusing}
-use Rattle.header.proofs.Tests.{both-false, alike}
+use Rattle.header.proofs.Tests.{alike}
 use Rattle.script.specs.Script.{checkRows}
 use Rattle.script.proofs.Passed.{Passed, passed}
 use Rattle.writer.specs.Pieces.{givenOperands}

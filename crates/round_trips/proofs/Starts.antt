@@ -8,8 +8,8 @@ use native.Mathlib.Omega.{arith}
 use lib.Dec.{ltb}
 use lib.ListN.{length, take, drop, length-take}
 use borrow.Author.Tests.{ltb-false}
+use Rattle.fixed.proofs.Tests.{both-false}
 use Rattle.header.specs.Header.{outside}
-use Rattle.header.proofs.Tests.{both-false}
 use Rattle.commands.specs.Commands.{operandsOf}
 use Rattle.writer.specs.Pieces.{Piece, piecesBy, piecesOf, pieceWords, joined, Whole, isMask, givenOperands}
 use Rattle.writer.specs.Pieces.{bytesTaken, started, startsFrom, unstarted}

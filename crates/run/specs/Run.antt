@@ -3,7 +3,7 @@
 use mathlib.Core.Path.{_≡_}
 use mathlib.Core.Bool.{Bool, true, false}
 use mathlib.Core.List.{List, [], _∷_}
-use Prim.Native.Nat.{ℕ, _+_, _*_, _≤_, _<_}
+use Prim.Native.Nat.{ℕ, _+_, _≤_, _<_}
 use lib.IntN.{ℤ}
 use lib.ListN.{length, take, drop}
 use Rattle.stems.specs.declared.mask.HintMask.{HintMask}
@@ -16,7 +16,6 @@ use Rattle.hints.specs.Path.{hasPoint}
 use Rattle.hints.specs.Calls.{Call, stem, hintMask, counterMask, clear, close, draw, nextOf, wordsFor}
 use Rattle.hints.specs.Calls.{newDrawing}
 use Rattle.words.specs.declared.answer.Answer.the-variants.{Ok}
-use Rattle.words.specs.Words.{rawAt, givenWord}
 use Rattle.words.specs.Answers.{Says, firstOf}
 use Rattle.commands.specs.declared.reading.Marking.{Marking}
 use Rattle.commands.specs.declared.reading.Marking.the-variants.{Bad, Stem, Mask, Counter, Clear, Close}
@@ -103,16 +102,6 @@ pub record Runnable (s : List ℕ) (w : ℕ → ℕ) (first n from : ℕ) : Type
   pub bytes : ℕ
   pub inside : from + bytes ≤ length s
   pub faultless : firstOf (commandRows bytes (commandsOf first w n)) ≡ Ok
-
--- the words of a run are a script's, or given as a list
-abbrev pub wordBy : Bool → List ℕ → List ℤ → ℕ → ℕ
-wordBy true part words = givenWord words
-wordBy false part words = rawAt part
-
--- and n of them are there
-abbrev pub ThereBy : Bool → List ℕ → List ℤ → ℕ → Type 0
-ThereBy true part words n = n ≡ length words
-ThereBy false part words n = 4 * n ≤ length part
 
 -- a call has points, and the map that carries them is not valid
 abbrev pub wantsMap : Bool → Path → Bool

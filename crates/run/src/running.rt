@@ -3,9 +3,7 @@ use crate::kept::Sizes;
 use crate::marks::marked;
 use commands::Command;
 use commands::Marking;
-use commands::Read;
-use commands::read_command;
-use commands::read_given;
+use commands::read_by;
 use hints::draw_by_lines;
 use pen::CallAnswer;
 use pen::Path;
@@ -20,13 +18,13 @@ use zones::Gauge;
 use zones::HintState;
 use zones::ZONE_NUMBERS;
 ghost use mathlib.Core.Path.{_≡_};
-ghost use Prim.Native.Nat.{_*_, _≤_, _<_};
+ghost use Prim.Native.Nat.{_*_, _≤_};
 ghost use lib.ListN.{length};
 ghost use Rattle.zones.specs.Numbers.{stateIn};
 ghost use Rattle.words.specs.Words.{rawAt, givenWord};
-ghost use Rattle.commands.specs.Commands.{readAt, commandsOf};
+ghost use Rattle.commands.specs.Commands.{wordBy, countBy, commandsOf};
 ghost use Rattle.run.specs.Kept.{Spare};
-ghost use Rattle.run.specs.Run.{callsOf, wantsMap, isClose, ranOf, Ended, Runnable, wordBy, ThereBy};
+ghost use Rattle.run.specs.Run.{callsOf, wantsMap, isClose, ranOf, Ended, Runnable};
 
 // How a run ended: the answer, and the record words that were written.
 pub struct Ran {
@@ -63,19 +61,9 @@ fn is_close(marking: Marking) -> bool
     }
 }
 
-// The command at word `at` of `n`, which a part of a script or a list of words gives.
-fn read_by(part: &[u8], words: &[i32], as_words: bool, n: usize, at: usize) -> Read
-    requires { ⌜ ThereBy as_words (now part) (now words) n × (at < n) ⌝ }
-    ensures { λ r. ⌜ r ≡ readAt (wordBy as_words (now (part .entry)) (now (words .entry))) n at ⌝ }
-{
-    if as_words {
-        return read_given(words, at);
-    }
-    read_command(part, n, at)
-}
-
-// Runs `n` command words, the first of which is called word `first`. Their masks are bytes of the
-// script, from byte `from` on. The state is its numbers and a list of zones.
+// Runs `n` command words, the first of which is called word `first`, of a part of a script or of a list
+// as the mark says. Their masks are bytes of the script, from byte `from` on. The state is its numbers
+// and a list of zones.
 fn run_by(
     script: &[u8],
     part: &[u8],
@@ -93,7 +81,7 @@ fn run_by(
     notes: &mut [i32; MAX_HINTS],
     out: &mut [i32],
 ) -> Ran
-    requires { ⌜ ThereBy as_words (now part) (now words) n ×
+    requires { ⌜ (n ≤ countBy as_words (now part) (now words)) ×
         (Runnable (now script) (wordBy as_words (now part) (now words)) first n from ×
         Spare (now stems) (now initial) (now map) (now tags) (now notes)) ⌝ }
     ensures { λ r. ⌜ Ended (ranOf (stateIn gauge (now (zones .entry))) (callsOf (now (script .entry)) from

@@ -11,6 +11,7 @@ use lib.ListN.{length, getD}
 use lib.Pow.{pow-pos}
 use lib.Seq.{getD-set-same, getD-set-other}
 use borrow.Author.Tests.{eqb-true, eqb-false, eq-eqb}
+use Rattle.fixed.proofs.Tests.{both}
 use Rattle.stems.specs.declared.mask.HintMask.{HintMask}
 use Rattle.stems.specs.Mask.{ofBytes, allActive, isActive, cleared, without, sameMask, sameBytes, byteOf, weight}
 
@@ -19,19 +20,11 @@ abbrev pub upTo : (ℕ → Bool) → ℕ → Bool
 upTo f zero = true
 upTo f (suc n) = f 0 && upTo (λ (k : ℕ). f (suc k)) n
 
-and-left : (a b : Bool) → (a && b) ≡ true → a ≡ true
-and-left true b e = refl
-and-left false b e = e
-
-and-right : (a b : Bool) → (a && b) ≡ true → b ≡ true
-and-right true b e = e
-and-right false b e = absurd (true≢false (sym e))
-
 -- What passes at each number below n passes at one.
 pub passes : (f : ℕ → Bool) (n : ℕ) → upTo f n ≡ true → (k : ℕ) → k < n → f k ≡ true
 passes f zero e k h = absurd (omega arith)
-passes f (suc n) e zero h = and-left _ _ e
-passes f (suc n) e (suc k) h = passes (λ (j : ℕ). f (suc j)) n (and-right (f 0) _ e) k (omega arith)
+passes f (suc n) e zero h = both _ _ e .0
+passes f (suc n) e (suc k) h = passes (λ (j : ℕ). f (suc j)) n (both (f 0) _ e .1) k (omega arith)
 
 -- Every stem of the full mask is active.
 pub all-on : (i : ℕ) → i < 96 → isActive allActive i ≡ true
@@ -133,7 +126,7 @@ bytes-are [] [] e = refl
 bytes-are [] (y ∷ ys) e = absurd (true≢false (sym e))
 bytes-are (x ∷ xs) [] e = absurd (true≢false (sym e))
 bytes-are (x ∷ xs) (y ∷ ys) e =
-    rw (eqb-true x y (and-left _ _ e), bytes-are xs ys (and-right (eqb x y) _ e))
+    rw (eqb-true x y (both _ _ e .0), bytes-are xs ys (both (eqb x y) _ e .1))
 
 are-bytes : (xs : List ℕ) → sameBytes xs xs ≡ true
 unfolding sameBytes

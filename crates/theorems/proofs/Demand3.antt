@@ -11,6 +11,7 @@ use lib.ListN.{length}
 use borrow.Author.Tests.{le-leb}
 use Rattle.fixed.specs.Fixed.{fromBits, lessF}
 use Rattle.zones.specs.declared.state.HintState.{HintState}
+use Rattle.zones.specs.State.{countsFit}
 use Rattle.build.proofs.Sound.{built-good}
 use Rattle.hints.specs.Hints.{withInitial, readyOf}
 use Rattle.hints.specs.declared.drawing.Drawing.{Drawing}
@@ -20,7 +21,7 @@ use Rattle.drawing.specs.declared.opening.Opened.{Opened}
 use Rattle.hints.specs.Calls.{Call, nextOf, wordsFor}
 use Rattle.drawing.specs.After.{Called}
 use Rattle.hints.specs.Calls.{newDrawing}
-use Rattle.drawing.specs.Open.{countsFit, openOf}
+use Rattle.drawing.specs.Open.{openOf}
 use Rattle.words.specs.declared.answer.Answer.the-variants.{Ok}
 use Rattle.words.specs.Words.{rawAt, numberAt}
 use Rattle.words.proofs.Rows.{none-holds}

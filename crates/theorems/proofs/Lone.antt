@@ -10,6 +10,7 @@ use Rattle.fixed.specs.Fixed.{fromBits, lessF}
 use Rattle.fixed.proofs.Order.{heights}
 use Rattle.zones.specs.declared.state.HintParams.{HintParams}
 use Rattle.zones.specs.declared.state.HintState.{HintState}
+use Rattle.zones.specs.State.{countsFit}
 use Rattle.pen.specs.Records.{written, fits}
 use Rattle.pen.specs.Drawn.{callNumber, callWords}
 use Rattle.hints.specs.declared.drawing.Drawing.{Drawing}
@@ -17,7 +18,7 @@ use Rattle.drawing.specs.declared.calls.After.{After}
 use Rattle.drawing.specs.declared.opening.Opened.{Opened}
 use Rattle.hints.specs.Calls.{Call, wordsFor, roomBy}
 use Rattle.drawing.specs.After.{Called}
-use Rattle.drawing.specs.Open.{countsFit, openBy, openOf, Opens}
+use Rattle.drawing.specs.Open.{openBy, openOf, Opens}
 use Rattle.theorems.specs.Lone.{CallEnds, done, refused, OpenEnds, badScale, badBlues, accepted}
 
 -- every outcome of a lone call ends in one of the two ways

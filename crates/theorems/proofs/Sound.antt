@@ -18,7 +18,7 @@ use Rattle.stems.specs.declared.edge.Kind.the-variants.{PairBottom}
 use Rattle.stems.specs.Mask.{sameMask}
 use Rattle.zones.specs.declared.state.HintParams.{HintParams}
 use Rattle.zones.specs.declared.state.HintState.{HintState}
-use Rattle.zones.specs.State.{emBox, stateBy, stateOf}
+use Rattle.zones.specs.State.{countsFit, emBox, stateBy, stateOf}
 use Rattle.hintmap.specs.declared.map.HintMap.{HintMap}
 use Rattle.hintmap.specs.Map.{view}
 use Rattle.hintmap.specs.WholeStems.{Pair, Above}
@@ -34,7 +34,7 @@ use Rattle.hints.specs.declared.drawing.Drawing.{Drawing}
 use Rattle.hints.specs.Calls.{Call, stem, hintMask, counterMask, clear, close, draw, readyFor, hintsOf, roomBy}
 use Rattle.hints.specs.Calls.{wordsFor}
 use Rattle.hints.specs.Calls.{newDrawing}
-use Rattle.drawing.specs.Open.{countsFit, openBy, openOf}
+use Rattle.drawing.specs.Open.{openBy, openOf}
 use Rattle.theorems.specs.Reached.{Reached, opened, called, edge, height, OneStem, LastBelow, Carrier, byEdge}
 use Rattle.theorems.specs.Reached.{byFirst, byScale, Serves, last, first, none, Carried, Sound}
 

@@ -17,7 +17,7 @@ use Rattle.stems.specs.Edge.{noHint, isPair}
 use Rattle.zones.specs.declared.state.HintState.{HintState}
 use Rattle.hintmap.specs.declared.map.HintMap.{HintMap}
 use Rattle.hintmap.specs.Map.{view}
-use Rattle.hintmap.proofs.Tests.{both}
+use Rattle.fixed.proofs.Tests.{both}
 use Rattle.hintmap.proofs.Words.{pair-real}
 use Rattle.build.proofs.Once.{numbered}
 use Rattle.build.proofs.Used.{built-keeps}

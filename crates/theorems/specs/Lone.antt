@@ -11,7 +11,7 @@ use Rattle.fixed.specs.declared.Fixed.{Fixed}
 use Rattle.fixed.specs.Fixed.{ONE}
 use Rattle.zones.specs.declared.state.HintParams.{HintParams}
 use Rattle.zones.specs.declared.state.HintState.{HintState}
-use Rattle.zones.specs.State.{stateOf}
+use Rattle.zones.specs.State.{countsFit, stateOf}
 use Rattle.pen.specs.Records.{written}
 use Rattle.pen.specs.Drawn.{callNumber, callWords, callPlace}
 use Rattle.hints.specs.declared.drawing.Drawing.{Drawing}
@@ -19,7 +19,7 @@ use Rattle.drawing.specs.declared.calls.After.{After}
 use Rattle.drawing.specs.declared.opening.Opened.{Opened}
 use Rattle.hints.specs.Calls.{Call, nextOf, wordsFor}
 use Rattle.hints.specs.Calls.{newDrawing}
-use Rattle.drawing.specs.Open.{countsFit, refusedState, openNumber, openPlace}
+use Rattle.drawing.specs.Open.{refusedState, openNumber, openPlace}
 
 -- ---- a lone call
 -- one that fits is done and answers its words

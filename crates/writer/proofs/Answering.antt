@@ -10,10 +10,10 @@ use lib.IntN.{pos}
 use lib.ListN.{length}
 use borrow.Author.Tests.{eqb-true, eq-eqb, ne-eqb, ltb-false, not-false}
 use Rattle.fixed.specs.Fixed.{fromBits, lessF}
+use Rattle.fixed.proofs.Tests.{both-false}
 use Rattle.words.specs.Rows.{Row, firstOr}
 use Rattle.words.specs.Bytes.{over}
 use Rattle.words.proofs.Rows.{found-else}
-use Rattle.header.proofs.Tests.{both-false}
 use Rattle.writer.specs.declared.write_answer.WriteAnswer.{WriteAnswer}
 use Rattle.writer.specs.declared.write_answer.WriteAnswer.the-variants.{Written, ScriptRoom}
 use Rattle.writer.specs.ToWrite.{Given, piecesIn, scriptFor}

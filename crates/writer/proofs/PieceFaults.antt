@@ -9,12 +9,12 @@ use lib.Dec.{ltb}
 use lib.ListN.{length, take, drop, getD, length-take, length-drop, drop-of-length-le}
 use borrow.Author.Tests.{ltb-false}
 use Rattle.fixed.specs.declared.Fixed.{Fixed}
+use Rattle.fixed.proofs.Tests.{both-false}
 use Rattle.zones.specs.declared.state.HintParams.{HintParams}
 use Rattle.words.specs.Words.{negative}
 use Rattle.words.specs.Rows.{Row, firstOr}
 use Rattle.words.proofs.Rows.{Refusing}
 use Rattle.header.specs.Header.{outside}
-use Rattle.header.proofs.Tests.{both-false}
 use Rattle.writer.specs.declared.write_answer.WriteAnswer.{WriteAnswer}
 use Rattle.writer.specs.declared.write_answer.WriteAnswer.the-variants.{Written, BadCommand, BadMask}
 use Rattle.writer.specs.Pieces.{Piece, piecesOf, pieceWords, givenOperands, pieceAt, bytesTaken}

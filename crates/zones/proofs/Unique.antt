@@ -1,6 +1,7 @@
 -- Any two outcomes that meet the contract of a public function are equal, over that contract as the
 -- toolchain reads it: the result, and the zones that a list holds. Assumes nothing.
 use mathlib.Core.Path.{_≡_, sym, _∙_}
+use mathlib.Core.Bool.{Bool}
 use borrow.Fn.Kinds.{endedOf}
 use borrow.Fn.World.{ArgsD, ResD}
 use contract.Lifetimes.{Lfts}
@@ -12,6 +13,7 @@ use Rattle.zones.specs.declared.state.HintParams.{HintParams}
 use Rattle.zones.specs.declared.state.HintState.{HintState}
 use Rattle.zones.specs.declared.state.Gauge.{Gauge}
 use Rattle.zones.specs.declared.capture.Captured.{Captured}
+use Rattle.zones.proofs.state.HintParams.counts_fit.Reads as counts-fit-reads
 use Rattle.zones.proofs.state.HintState.new.Reads as new-reads
 use Rattle.zones.specs.Numbers.{zonesIn}
 use Rattle.zones.proofs.state.HintState.capture.Reads as capture-reads
@@ -22,6 +24,10 @@ use Rattle.zones.proofs.state.HintState.gauge.Reads as gauge-reads
 use Rattle.zones.proofs.state.HintState.list as list
 use Rattle.zones.proofs.state.HintState.list.Kinds as list-kinds
 use Rattle.zones.proofs.state.HintState.list.Reads as list-reads
+
+pub counts-fit-unique : (κs : Lfts 0) (p : HintParams) (r r′ : Bool) → counts-fit-reads.Post κs (p, tt) r (p, tt) →
+    counts-fit-reads.Post κs (p, tt) r′ (p, tt) → r ≡ r′
+counts-fit-unique κs p r r′ x y = x ∙ sym y
 
 pub new-unique : (κs : Lfts 0) (p : HintParams) (s : Fixed) (r r′ : HintState) →
     new-reads.Post κs (p, (s, tt)) r (p, (s, tt)) → new-reads.Post κs (p, (s, tt)) r′ (p, (s, tt)) → r ≡ r′

@@ -1,7 +1,7 @@
 -- The state that parameters and a scale make (01, "Zones").
 use mathlib.Core.Bool.{Bool, true, false, cond, _&&_, _||_}
 use mathlib.Core.List.{List, [], map}
-use lib.Dec.{eqb}
+use lib.Dec.{eqb, leb}
 use lib.IntN.{ℤ, pos, negsuc, negℤ}
 use lib.ListN.{length, getD}
 use Rattle.fixed.specs.declared.Fixed.{Fixed}
@@ -9,7 +9,8 @@ use Rattle.fixed.specs.Fixed.{fromBits, whole, ZERO, ONE, subF, divF, mulDivF, 
 use Rattle.zones.specs.declared.blues.BlueZone.{BlueZone}
 use Rattle.zones.specs.declared.state.HintParams.{HintParams}
 use Rattle.zones.specs.declared.state.HintState.{HintState}
-use Rattle.zones.specs.Zones.{noBlue, whollyBelow, whollyAbove, kept, greatestFrom, movedFlat, deviceFlat, filled}
+use Rattle.zones.specs.Zones.{maxBlues, noBlue, whollyBelow, whollyAbove, kept, greatestFrom, movedFlat}
+use Rattle.zones.specs.Zones.{deviceFlat, filled}
 
 -- the em box, from −120 to 880
 abbrev pub icfBottom : Fixed
@@ -24,6 +25,14 @@ fullBoost = fromBits (pos 39322)
 
 abbrev pub mostBoost : Fixed
 mostBoost = fromBits (pos 32767)
+
+-- ---- the counts
+-- every list has at most seven pairs
+unfoldable pub countsFit : HintParams → Bool
+countsFit p =
+    leb (p .blues .count) maxBlues &&
+    (leb (p .«other_blues» .count) maxBlues &&
+    (leb (p .«family_blues» .count) maxBlues && leb (p .«family_other_blues» .count) maxBlues))
 
 -- ---- em-box hints
 abbrev pub isOne : ℤ → Bool

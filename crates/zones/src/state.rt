@@ -12,7 +12,7 @@ ghost use Prim.Native.Nat.{_<_};
 ghost use lib.IntN.{pos};
 ghost use lib.Signed.{_<ℤ_};
 ghost use Rattle.zones.specs.Zones.{packed};
-ghost use Rattle.zones.specs.State.{emBox, keptOf, clampedScale, boostOf, stateOf};
+ghost use Rattle.zones.specs.State.{countsFit, emBox, keptOf, clampedScale, boostOf, stateOf};
 
 pub struct HintParams {
     pub blue_scale: Fixed,
@@ -62,6 +62,26 @@ const FULL_BOOST: Fixed = Fixed { bits: 39322 };
 const MOST_BOOST: Fixed = Fixed { bits: 0x7fff };
 
 impl HintParams {
+    // Every list has at most seven pairs.
+    pub fn counts_fit(self) -> bool
+        ensures { λ r. ⌜ r ≡ countsFit self ⌝ }
+    {
+        let blues = self.blues;
+        let others = self.other_blues;
+        let family = self.family_blues;
+        let family_others = self.family_other_blues;
+        if MAX_BLUES < blues.count {
+            return false;
+        }
+        if MAX_BLUES < others.count {
+            return false;
+        }
+        if MAX_BLUES < family.count {
+            return false;
+        }
+        family_others.count <= MAX_BLUES
+    }
+
     // From `build_zones`: the glyph is fitted to the em box and not to zones.
     pub(crate) fn em_box(self) -> bool
         ensures { λ r. ⌜ r ≡ emBox self ⌝ }

@@ -9,8 +9,9 @@ use mir.Val.{SFits}
 use mir.Facts.{toZ-ofZ}
 use Rattle.fixed.specs.Fixed.{fromBits, lessF}
 use Rattle.fixed.proofs.Order.{heights}
+use Rattle.zones.specs.State.{countsFit}
 use Rattle.drawing.specs.declared.opening.Opened.{Opened}
-use Rattle.drawing.specs.Open.{countsFit, openOf, openNumber, Opens}
+use Rattle.drawing.specs.Open.{openOf, openNumber, Opens}
 use Rattle.drawing.proofs.opening.open.Statement.{statement}
 use Rattle.drawing.proofs.opening.open.Tie as tie
 

@@ -1,6 +1,7 @@
 -- `run` lists the zones, and lends lists for the maps: the state's numbers and that list are the state.
 -- Assumes nothing.
 use mathlib.Core.Path.{refl}
+use native.Mathlib.Omega.{arith}
 use borrow.Author.Needs.{needs}
 use Rattle.zones.proofs.Listing.{state-is}
 use Rattle.run.proofs.running.run.Statement.{statement}
@@ -10,7 +11,7 @@ run-by-requires : tie.Need-run-by-requires
 run-by-requires c κs =
     let l = c .before .before .before .before .before .before .before .before .before in
     let p = l .before .before .before .before .pre in
-    (p .0, (p .1, record { long = refl; whole = record { all = refl; named = refl }; current = refl; notes = refl }))
+    (omega (arith, p .0), (p .1, record { long = refl; whole = record { all = refl; named = refl }; current = refl; notes = refl }))
 
 returns : tie.Need-returns
 returns c =

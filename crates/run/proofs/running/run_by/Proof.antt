@@ -18,10 +18,10 @@ use Rattle.hints.specs.Path.{hasPoint, strokeBy}
 use Rattle.build.specs.Made.{NoteRoom}
 use Rattle.commands.specs.declared.reading.Read.{Read}
 use Rattle.commands.specs.declared.reading.Command.the-variants.{Mark, Draw}
-use Rattle.commands.specs.Commands.{readAt, nextAt}
+use Rattle.commands.specs.Commands.{readAt, nextAt, wordBy}
 use Rattle.commands.proofs.Laws.{next-is}
 use Rattle.run.specs.Kept.{Spare}
-use Rattle.run.specs.Run.{wantsMap, wordBy}
+use Rattle.run.specs.Run.{wantsMap}
 use Rattle.run.proofs.Reading.{mask-there}
 use Rattle.run.proofs.Turns.{turn-done, unready, unready-one, wanted}
 use Rattle.run.proofs.Keeping.{Running, starts, mappable, closes, marks, readies, draws, refuses}

@@ -11,10 +11,10 @@ use lib.ListN.{length, length-map}
 use borrow.Author.Needs.{needs}
 use borrow.Author.Tests.{lt-ltb, le-ltb, ltb-false}
 use Rattle.fixed.specs.Integers.{bitsOf}
+use Rattle.fixed.proofs.Tests.{both-false}
 use Rattle.words.specs.Rows.{firstOr}
 use Rattle.writer.specs.declared.write_answer.WriteAnswer.the-variants.{Written, BadMask}
 use Rattle.words.specs.Words.{negative}
-use Rattle.header.proofs.Tests.{both-false}
 use Rattle.writer.specs.Pieces.{givenOperands, pieceAt, bytesTaken}
 use Rattle.writer.specs.ToWrite.{piecesIn}
 use Rattle.writer.specs.Refusals.{badPiece, tooLong, pieceRows}

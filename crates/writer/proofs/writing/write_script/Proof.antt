@@ -7,9 +7,9 @@ use lib.Dec.{ltb}
 use lib.ListN.{length}
 use borrow.Author.Needs.{needs}
 use borrow.Author.Tests.{ltb-false}
+use Rattle.fixed.proofs.Tests.{both-false}
 use Rattle.words.specs.Rows.{firstOr}
 use Rattle.header.specs.Header.{padded}
-use Rattle.header.proofs.Tests.{both-false}
 use Rattle.writer.specs.declared.write_answer.WriteAnswer.the-variants.{Written, ScriptRoom}
 use Rattle.writer.specs.ToWrite.{Given, given, scriptFor}
 use Rattle.writer.specs.Refusals.{writeNumber, roomRow, writeAnswer}

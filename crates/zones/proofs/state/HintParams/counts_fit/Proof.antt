@@ -1,8 +1,8 @@
--- `counts_fit` meets its contract, by its four tests. Assumes nothing.
+-- `HintParams::counts_fit` meets its contract, by its four tests. Assumes nothing.
 use borrow.Author.Tests.{le-leb, lt-leb}
-use Rattle.drawing.specs.Open.{countsFit}
-use Rattle.drawing.proofs.opening.counts_fit.Statement.{statement}
-use Rattle.drawing.proofs.opening.counts_fit.Tie as tie
+use Rattle.zones.specs.State.{countsFit}
+use Rattle.zones.proofs.state.HintParams.counts_fit.Statement.{statement}
+use Rattle.zones.proofs.state.HintParams.counts_fit.Tie as tie
 
 returns : tie.Need-returns
 unfolding countsFit
