@@ -1,17 +1,14 @@
 -- How a list of edges is judged by what is stored for it. A case starts with ten words.
-use mathlib.Core.Bool.{Bool, cond, _&&_}
+use mathlib.Core.Bool.{Bool, _&&_}
 use mathlib.Core.List.{List}
 use Prim.Native.Nat.{ℕ, _+_, _*_}
-use lib.Dec.{eqb, ltb}
-use lib.IntN.{ℤ}
-use lib.ListN.{length}
+use lib.Dec.{eqb}
 use Rattle.words.specs.Words.{rawAt}
 use Rattle.listing.specs.declared.summary.Summary.{Summary}
 use Rattle.overlay.specs.declared.answer.SeenAnswer.{SeenAnswer}
 use Rattle.overlay.specs.Seen.{SeenResult, seenNumber, seenPlace, seenSummary}
-use Rattle.test_tables.specs.Differing.{firstWord}
-use Rattle.test_edges.specs.declared.judging.Verdict.{Verdict}
-use Rattle.test_edges.specs.declared.judging.Verdict.the-variants.{Same, Answer, Word}
+use Rattle.test_tables.specs.declared.verdict.Verdict.{Verdict}
+use Rattle.test_tables.specs.Verdicts.{verdictOn}
 
 -- ---- what is asked: the commands are counted in words 1 and 2
 abbrev pub commandCount : List ℕ → ℕ
@@ -32,12 +29,5 @@ sameAnswer head a =
     sameSummary head (seenSummary a))
 
 -- ---- the verdict
-abbrev pub seen : SeenAnswer → List ℤ → SeenResult
-seen answer left = record { answer = answer; left = left }
-
-abbrev pub wordVerdict : List ℤ → List ℕ → Verdict
-wordVerdict left stored =
-    cond (ltb (firstWord left stored) (length left)) (Word (firstWord left stored)) Same
-
 unfoldable pub verdictOf : List ℕ → List ℕ → SeenResult → Verdict
-verdictOf head stored r = cond (sameAnswer head (r .answer)) (wordVerdict (r .left) stored) Answer
+verdictOf head stored r = verdictOn (sameAnswer head (r .answer)) (r .left) stored

@@ -1,9 +1,9 @@
 // One case.
-use crate::judging::Verdict;
 use crate::judging::judged;
 use crate::records::LENT_WORDS;
 use crate::records::judged_records;
 use crate::row;
+use test_tables::Verdict;
 use test_tables::read_bytes;
 use words::natural;
 use words::read_words;

@@ -3,20 +3,14 @@ use crate::row;
 use listing::Summary;
 use overlay::SeenAnswer;
 use overlay::see_edges;
-use test_tables::first_word;
+use test_tables::Verdict;
+use test_tables::judge;
 use words::natural;
 ghost use mathlib.Core.Path.{_≡_};
 ghost use Prim.Native.Nat.{_*_, _≤_};
 ghost use lib.ListN.{length};
 ghost use Rattle.overlay.specs.Seen.{seenOf};
-ghost use Rattle.test_edges.specs.Judging.{commandCount, sameSummary, sameAnswer, seen, verdictOf};
-
-// What first differs from what is stored: the answer with its counts, or a word of the list.
-pub(crate) enum Verdict {
-    Same,
-    Answer,
-    Word(usize),
-}
+ghost use Rattle.test_edges.specs.Judging.{commandCount, sameSummary, sameAnswer, verdictOf};
 
 // Lists the edges.
 pub(crate) fn judged(head: &[u8], script: &[u8], stored: &[u8], list: &mut [i32]) -> Verdict
@@ -25,7 +19,7 @@ pub(crate) fn judged(head: &[u8], script: &[u8], stored: &[u8], list: &mut [i32]
         (seenOf (now (script .entry)) (commandCount (now (head .entry))) (now (list .entry))) ⌝ }
 {
     let answer = see_edges(script, commands(head), list);
-    compared(head, stored, answer, list)
+    judge(same_answer(head, answer), list, stored)
 }
 
 pub(crate) fn commands(head: &[u8]) -> usize
@@ -33,21 +27,6 @@ pub(crate) fn commands(head: &[u8]) -> usize
     ensures { λ r. ⌜ r ≡ commandCount (now (head .entry)) ⌝ }
 {
     natural(head, row::COMMANDS) + 4294967296 * natural(head, row::COMMANDS_HIGH)
-}
-
-// What the edges were listed as.
-fn compared(head: &[u8], stored: &[u8], answer: SeenAnswer, list: &[i32]) -> Verdict
-    requires { ⌜ (40 ≤ length (now head)) × (4 * length (now list) ≤ length (now stored)) ⌝ }
-    ensures { λ r. ⌜ r ≡ verdictOf (now (head .entry)) (now (stored .entry)) (seen answer (now (list .entry))) ⌝ }
-{
-    if !same_answer(head, answer) {
-        return Verdict::Answer;
-    }
-    let first = first_word(list, stored);
-    if first < list.len() {
-        return Verdict::Word(first);
-    }
-    Verdict::Same
 }
 
 fn same_answer(head: &[u8], answer: SeenAnswer) -> bool

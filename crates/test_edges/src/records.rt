@@ -1,5 +1,4 @@
 // The same into a list of twelve records, all of them alike, that `lend_list` lends.
-use crate::judging::Verdict;
 use crate::judging::commands;
 use crate::judging::same_summary;
 use crate::lent::LENT_RECORDS;
@@ -10,6 +9,7 @@ use listing::EdgeRecord;
 use script::check_script;
 use script::map_after;
 use stems::Kind;
+use test_tables::Verdict;
 use words::natural;
 use words::number;
 ghost use Prim.Native.Nat.{_+_, _*_, _≤_};

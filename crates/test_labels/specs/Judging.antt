@@ -1,17 +1,14 @@
 -- How a label run is judged by what is stored for it. A case starts with ten words.
-use mathlib.Core.Bool.{Bool, cond, _&&_}
+use mathlib.Core.Bool.{Bool, _&&_}
 use mathlib.Core.List.{List}
 use Prim.Native.Nat.{ℕ}
-use lib.Dec.{eqb, ltb}
-use lib.IntN.{ℤ}
-use lib.ListN.{length}
+use lib.Dec.{eqb}
 use Rattle.words.specs.Words.{rawAt}
 use Rattle.labels.specs.declared.label_answer.LabelAnswer.{LabelAnswer}
 use Rattle.labels.specs.Answers.{labelNumber, labelGlyph, labelPlace, labelWritten}
 use Rattle.labels.specs.Labels.{LabelResult}
-use Rattle.test_tables.specs.Differing.{firstWord}
-use Rattle.test_labels.specs.declared.judging.Verdict.{Verdict}
-use Rattle.test_labels.specs.declared.judging.Verdict.the-variants.{Same, Answer, Word}
+use Rattle.test_tables.specs.declared.verdict.Verdict.{Verdict}
+use Rattle.test_tables.specs.Verdicts.{verdictOn}
 
 -- ---- what is stored: the number at word 5, the glyph at word 6, the place at word 7, the words
 -- written at word 8
@@ -23,12 +20,5 @@ sameAnswer head a =
     eqb (labelWritten a) (rawAt head 8)))
 
 -- ---- the verdict
-abbrev pub labelled : LabelAnswer → List ℤ → LabelResult
-labelled answer left = record { answer = answer; left = left }
-
-abbrev pub wordVerdict : List ℤ → List ℕ → Verdict
-wordVerdict left stored =
-    cond (ltb (firstWord left stored) (length left)) (Word (firstWord left stored)) Same
-
 unfoldable pub verdictOf : List ℕ → List ℕ → LabelResult → Verdict
-verdictOf head stored r = cond (sameAnswer head (r .answer)) (wordVerdict (r .left) stored) Answer
+verdictOf head stored r = verdictOn (sameAnswer head (r .answer)) (r .left) stored

@@ -1,7 +1,7 @@
 // One case.
-use crate::judging::Verdict;
 use crate::judging::judged;
 use crate::row;
+use test_tables::Verdict;
 use test_tables::read_bytes;
 use words::natural;
 use words::read_words;

@@ -2,7 +2,8 @@
 use crate::row;
 use labels::LabelAnswer;
 use labels::run_labels;
-use test_tables::first_word;
+use test_tables::Verdict;
+use test_tables::judge;
 use words::natural;
 use words::number;
 use writer::params_from;
@@ -12,14 +13,7 @@ ghost use lib.ListN.{length};
 ghost use Rattle.words.specs.Words.{rawAt, numberAt};
 ghost use Rattle.writer.specs.ParamWords.{paramsIn};
 ghost use Rattle.labels.specs.Labels.{label, labelsOf};
-ghost use Rattle.test_labels.specs.Judging.{sameAnswer, labelled, verdictOf};
-
-// What first differs from what is stored: the answer, or a word of the output.
-pub(crate) enum Verdict {
-    Same,
-    Answer,
-    Word(usize),
-}
+ghost use Rattle.test_labels.specs.Judging.{sameAnswer, verdictOf};
 
 // Makes the run.
 pub(crate) fn judged(
@@ -40,22 +34,7 @@ pub(crate) fn judged(
 {
     let scale = number(head, row::SCALE);
     let answer = run_labels(scale, params_from(params), commands, masks, lengths, out);
-    compared(head, stored, answer, out)
-}
-
-// What the run came to.
-fn compared(head: &[u8], stored: &[u8], answer: LabelAnswer, out: &[i32]) -> Verdict
-    requires { ⌜ (40 ≤ length (now head)) × (4 * length (now out) ≤ length (now stored)) ⌝ }
-    ensures { λ r. ⌜ r ≡ verdictOf (now (head .entry)) (now (stored .entry)) (labelled answer (now (out .entry))) ⌝ }
-{
-    if !same_answer(head, answer) {
-        return Verdict::Answer;
-    }
-    let first = first_word(out, stored);
-    if first < out.len() {
-        return Verdict::Word(first);
-    }
-    Verdict::Same
+    judge(same_answer(head, answer), out, stored)
 }
 
 fn same_answer(head: &[u8], answer: LabelAnswer) -> bool

@@ -35,6 +35,9 @@ use Rattle.test_tables.proofs.given.kind_number.Reads as kind-number-re
 use Rattle.test_tables.proofs.differing.first_word as first-word
 use Rattle.test_tables.proofs.differing.first_word.Kinds as first-word-kinds
 use Rattle.test_tables.proofs.differing.first_word.Reads as first-word-reads
+use Rattle.test_tables.proofs.verdict.judge as judge
+use Rattle.test_tables.proofs.verdict.judge.Kinds as judge-kinds
+use Rattle.test_tables.proofs.verdict.judge.Reads as judge-reads
 
 module _ (κs : Lfts 1) (a : ArgsD number.signature κs) (r r′ : ResD number.signature κs)
     (x x′ : AtExit (endedOf 1 number-kinds.ps number-kinds.r) κs) where
@@ -84,3 +87,8 @@ module _ (κs : Lfts 2) (a : ArgsD first-word.signature κs) (r r′ : ResD firs
     (x x′ : AtExit (endedOf 2 first-word-kinds.ps first-word-kinds.r) κs) where
   pub first-word-unique : first-word-reads.Post κs a r x → first-word-reads.Post κs a r′ x′ → r ≡ r′
   first-word-unique p q = p ∙ sym q
+
+module _ (κs : Lfts 2) (a : ArgsD judge.signature κs) (r r′ : ResD judge.signature κs)
+    (x x′ : AtExit (endedOf 2 judge-kinds.ps judge-kinds.r) κs) where
+  pub judge-unique : judge-reads.Post κs a r x → judge-reads.Post κs a r′ x′ → r ≡ r′
+  judge-unique p q = p ∙ sym q

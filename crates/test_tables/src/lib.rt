@@ -1,11 +1,12 @@
-// Rows of numbers and cases as the programs of figures read them, what they say of a table, and where
-// words differ from those that are stored.
+// Rows of numbers and cases as the programs of figures read them, what they say of a table, where words
+// differ from those that are stored, and the verdict on a case.
 mod cases;
 mod differing;
 mod given;
 mod input;
 mod report;
 mod row;
+mod verdict;
 
 pub use cases::case_count;
 pub use cases::case_cut;
@@ -27,3 +28,6 @@ pub use row::count;
 pub use row::fixed;
 pub use row::flag;
 pub use row::number;
+pub use verdict::Tally;
+pub use verdict::Verdict;
+pub use verdict::judge;

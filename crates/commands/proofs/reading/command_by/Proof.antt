@@ -119,8 +119,8 @@ returns-10 c =
 pub command-by-spec : {M : Type 1} → statement M
 command-by-spec =
     tie.close
-    (tie.spec (λ c. search (needs, most (c .before))) (λ c. search (needs, most (c .before))) number-by-requires number-by-requires-2 word-by-requires
-    word-by-requires-2 word-by-requires-3 word-by-requires-4 point-by-requires point-by-requires-2 point-by-requires-3
-    (λ c. search (needs, most (c .before .before .before))) point-by-requires-4
-    (λ c. search (needs, most (c .before .before .before .before))) point-by-requires-5 returns returns-2 returns-3
-    returns-4 returns-5 returns-6 returns-7 returns-8 returns-9 returns-10)
+    (tie.spec (λ c. search (needs, most (c .before))) (λ c. search (needs, most (c .before))) number-by-requires
+    number-by-requires-2 word-by-requires word-by-requires-2 word-by-requires-3 word-by-requires-4 point-by-requires
+    point-by-requires-2 point-by-requires-3 (λ c. search (needs, most (c .before .before .before)))
+    point-by-requires-4 (λ c. search (needs, most (c .before .before .before .before))) point-by-requires-5 returns
+    returns-2 returns-3 returns-4 returns-5 returns-6 returns-7 returns-8 returns-9 returns-10)

@@ -10,8 +10,10 @@ use Rattle.run.proofs.running.run.Tie as tie
 run-by-requires : tie.Need-run-by-requires
 run-by-requires c κs =
     let l = c .before .before .before .before .before .before .before .before .before in
-    let p = l .before .before .before .before .pre in
-    (omega (arith, p .0), (p .1, record { long = refl; whole = record { all = refl; named = refl }; current = refl; notes = refl }))
+    let p = l .before .before .before .before .pre in (
+      omega (arith, p .0),
+      (p .1, record { long = refl; whole = record { all = refl; named = refl }; current = refl; notes = refl }),
+    )
 
 returns : tie.Need-returns
 returns c =
