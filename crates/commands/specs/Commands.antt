@@ -45,12 +45,12 @@ nextAt w i = i + 1 + operandsOf (w i)
 unfoldable pub readAt : (ℕ → ℕ) → ℕ → ℕ → Read
 readAt w n i = record { command = cond (ltb n (nextAt w i)) (Mark Bad) (commandOf w i (w i)); next = nextAt w i }
 
--- words are a script's, or given as a list
+-- words that are given as a list, if a mark says so, or a script's
 abbrev pub wordBy : Bool → List ℕ → List ℤ → ℕ → ℕ
 wordBy true part words = givenWord words
 wordBy false part words = rawAt part
 
--- how many there are
+-- how many of them there are
 abbrev pub countBy : Bool → List ℕ → List ℤ → ℕ
 countBy true part words = length words
 countBy false part words = length part / 4

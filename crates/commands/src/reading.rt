@@ -1,5 +1,5 @@
-// Reading one command, of a script's bytes or of words that are given as a list. A function that takes
-// both is told by a mark which of them counts, since it cannot be lent either.
+// Reading one command, from a script's bytes or from words that are given as a list. A function that is
+// lent both is told by a mark which of them counts, since no one type stands for either.
 use fixed::Fixed;
 use fixed::bits_of;
 use fixed::signed;
@@ -116,7 +116,7 @@ fn command_by(part: &[u8], words: &[i32], as_words: bool, at: usize, kind: usize
     }
 }
 
-// The command at word `at` of `n`.
+// The command at word `at` of `n`, of the words if the mark is set and of the part if not.
 pub fn read_by(part: &[u8], words: &[i32], as_words: bool, n: usize, at: usize) -> Read
     requires { ⌜ (n ≤ countBy as_words (now part) (now words)) × (at < n) ⌝ }
     ensures { λ r. ⌜ r ≡ readAt (wordBy as_words (now (part .entry)) (now (words .entry))) n at ⌝ }
