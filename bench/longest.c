@@ -49,9 +49,11 @@ static void run(const int32_t *commands, size_t first, size_t second, uint32_t n
     spoonglacier_params params = {.blue_scale = 2597};
     int32_t lengths[] = {(int32_t)first, 0, (int32_t)second, 0};
     size_t room = (size_t)MOST_WORDS + behind, written = 0, glyph = 0, place = 0;
-    uint32_t answer = spoonglacier_labels(SPOONGLACIER_ONE, (const int32_t *)&params, SPOONGLACIER_PARAMS_WORDS, commands,
-                                          first + second, NULL, 0, lengths, 4, out, room, &written, &glyph, &place);
-    int32_t start[header + 1] = {1, 2, header, (int32_t)first, (int32_t)(header + first), (int32_t)second, finish_record};
+    uint32_t answer = spoonglacier_labels(SPOONGLACIER_ONE, (const int32_t *)&params, SPOONGLACIER_PARAMS_WORDS,
+                                          commands, first + second, NULL, 0, lengths, 4, out, room, &written, &glyph,
+                                          &place);
+    int32_t start[header + 1] = {1, 2, header, (int32_t)first, (int32_t)(header + first), (int32_t)second,
+                                 finish_record};
     size_t words = header + first + second;
     if (answer != SPOONGLACIER_OK) {
         words = 0;
