@@ -10,7 +10,6 @@ use Rattle.zones.specs.declared.state.HintParams.{HintParams}
 use Rattle.zones.specs.declared.state.HintState.{HintState}
 use Rattle.zones.specs.Zones.{maxZones, noZone}
 use Rattle.zones.specs.State.{countsFit, stateOf}
-use Rattle.hints.specs.declared.drawing.Drawing.{Drawing}
 use Rattle.drawing.specs.declared.opening.Opening.{Opening}
 use Rattle.drawing.specs.declared.opening.Opening.the-variants.{Ok, BadScale, BadBlues}
 use Rattle.drawing.specs.declared.opening.Opened.{Opened}

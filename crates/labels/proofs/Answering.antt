@@ -1,6 +1,6 @@
 -- Laws of a label run's answer: refusals in their order, and what is left where there is none.
 -- Assumes nothing.
-use mathlib.Core.Path.{_≡_, refl, sym, ap, subst, _∙_}
+use mathlib.Core.Path.{_≡_, refl, sym, ap, _∙_}
 use mathlib.Core.Bool.{Bool, true, false, cond, not}
 use mathlib.Core.List.{List, [], _∷_, _++_, map}
 use Prim.Native.Nat.{ℕ, zero, suc, _+_, _≤_, _<_}
@@ -9,7 +9,7 @@ use lib.Dec.{eqb, ltb}
 use lib.IntN.{ℤ, pos}
 use lib.ListN.{length}
 use lib.Signed.{_<ℤ_}
-use borrow.Author.Tests.{eqb-true, eq-eqb, ne-eqb, ltb-false, not-false}
+use borrow.Author.Tests.{eq-eqb, ne-eqb, ltb-false}
 use Rattle.fixed.specs.declared.Fixed.{Fixed}
 use Rattle.fixed.specs.Fixed.{fromBits, lessF}
 use Rattle.fixed.proofs.Order.{heights}
@@ -17,7 +17,6 @@ use Rattle.zones.specs.declared.state.HintParams.{HintParams}
 use Rattle.zones.specs.State.{stateOf}
 use Rattle.pen.specs.Records.{written}
 use Rattle.words.specs.declared.answer.Answer.{Answer}
-use Rattle.words.specs.declared.answer.Answer.the-variants.{Ok}
 use Rattle.words.specs.Rows.{Row, firstOr}
 use Rattle.words.specs.Answers.{numberOf, placeOf, refuses}
 use Rattle.words.proofs.Rows.{Refusing, none-holds, found-else, onward-else}
@@ -25,8 +24,8 @@ use Rattle.words.proofs.Answers.{not-refused}
 use Rattle.labels.specs.declared.label_answer.LabelAnswer.{LabelAnswer}
 use Rattle.labels.specs.declared.label_answer.LabelAnswer.the-variants.{Written, RunCount, BadCommand, BadMask}
 use Rattle.labels.specs.declared.label_answer.LabelAnswer.the-variants.{NoRoom}
-use Rattle.labels.specs.Answers.{labelNumber, labelRefuses, inGlyph}
-use Rattle.labels.specs.Glyphs.{Glyph, glyphsOf, miscounted, faultOf, recordsOf}
+use Rattle.labels.specs.Answers.{labelNumber, inGlyph}
+use Rattle.labels.specs.Glyphs.{Glyph, miscounted, faultOf}
 use Rattle.labels.specs.Labels.{Label, glyphsIn, recordsIn, headerOf, labelWords, openRows, glyphRows, roomRows}
 use Rattle.labels.specs.Labels.{roomIn, labelRows, labelAnswer, outputBy, labelsOf, Labelled}
 use Rattle.labels.specs.Measured.{sizeOf, sumFrom, Faultless, measuredOf}
@@ -64,6 +63,7 @@ open-refuse : (scale : Fixed) (p : HintParams) → Refuse (openRows scale p)
 unfolding openRows
 open-refuse scale p = (omega arith, (omega arith, tt))
 
+-- so neither of these tests gives the answer for where none holds
 pub open-refusing : (scale : Fixed) (p : HintParams) → Refusing (Written 0) (openRows scale p)
 open-refusing scale p = refusing (openRows scale p) (open-refuse scale p)
 

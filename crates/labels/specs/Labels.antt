@@ -10,7 +10,6 @@ use lib.ListN.{length}
 use Rattle.fixed.specs.declared.Fixed.{Fixed}
 use Rattle.fixed.specs.Fixed.{fromBits, lessF}
 use Rattle.zones.specs.declared.state.HintParams.{HintParams}
-use Rattle.zones.specs.declared.state.HintState.{HintState}
 use Rattle.zones.specs.State.{countsFit, stateOf}
 use Rattle.pen.specs.Records.{written}
 use Rattle.words.specs.Rows.{Row, row, firstOr}

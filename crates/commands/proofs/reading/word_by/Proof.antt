@@ -1,6 +1,6 @@
 -- `word_by` gives the word of what the mark says: the bits of a given one, or a script's. Assumes
 -- nothing.
-use mathlib.Core.Path.{_≡_, ap, _∙_}
+use mathlib.Core.Path.{ap, _∙_}
 use Prim.Native.Nat.{_/_, _<_}
 use native.Mathlib.Omega.{arith}
 use lib.IntN.{pos}

@@ -1,7 +1,7 @@
 -- `run_by` does the commands first to last, over hints that lists keep. At each turn the commands from
 -- here on, over the hints and the pen, make of the words from the next free one what all commands
 -- make of all words; a turn takes a command, or makes the map that one wants. Assumes nothing.
-use mathlib.Core.Path.{_≡_, refl, sym, ap, _∙_}
+use mathlib.Core.Path.{_≡_, sym, ap, _∙_}
 use mathlib.Core.Bool.{true, false}
 use Prim.Native.Nat.{ℕ, _+_, _-_, _*_, _<_, _≤_}
 use native.Mathlib.Omega.{arith}
