@@ -1,5 +1,7 @@
 // Adjusting a map: its hints are moved to whole pixels (`adjust` in hint.rs; 01, "The map",
 // Adjust).
+#![tactic(auto)]
+
 ghost use Rattle.std.specs.Prelude.{◌≡◌, ◌-◌, ◌<◌, ◌≤◌};
 ghost use Rattle.stems.specs.Edge.{max_hints, is_pair};
 ghost use Rattle.adjust.specs.Adjust.{to_next, moves_of, beside_by, room_up, room_down, choice_of, note_of, moved_hint};
@@ -12,35 +14,35 @@ use fixed::Fixed;
 use stems::{Hint, LINES, MAX_HINTS, TAGS, edge_at, put_line};
 
 // The smallest move up and the smallest move down. A move down is not above 0.
-#[derive(Drop)]
+#[derive(Clone, Copy)]
 pub struct Moves {
     pub up: Fixed,
     pub down: Fixed,
 }
 
 // The move that is made, and whether there was no room for a shorter move up, or for any.
-#[derive(Drop)]
+#[derive(Clone, Copy)]
 pub struct Choice {
     pub by: Fixed,
     pub short: bool,
 }
 
 // Whether a hint misses a move.
-#[derive(Drop)]
+#[derive(Clone, Copy)]
 pub enum Note {
     Settled,
     Missing(Fixed),
 }
 
 // The edge above or below a hint, where there is one.
-#[derive(Drop)]
+#[derive(Clone, Copy)]
 pub enum Neighbour {
     Absent,
     Edge(Hint),
 }
 
 // The edges of a hint once it is moved, and what is noted of it.
-#[derive(Drop)]
+#[derive(Clone, Copy)]
 pub struct Aligned {
     pub low: Hint,
     pub high: Hint,

@@ -7,6 +7,8 @@
 // which tools/assemble looks through first, only the scale can be refused besides. No more bytes
 // are read than the longest input has that is looked at. They are read into zeros, which stand for
 // what is missing, and bytes behind the masks are not looked at.
+#![tactic(auto)]
+
 mod asked;
 
 ghost use Rattle.std.specs.Prelude.{◌≤◌, length};

@@ -1,4 +1,6 @@
 // Building a map from stems, a mask and zones (01, "The map", last paragraph).
+#![tactic(auto)]
+
 mod ghosts;
 mod initial;
 mod map;

@@ -14,7 +14,7 @@ use stems::{HintMask, LINES, MAX_HINTS, STEM_NUMBERS, Stems, TAGS};
 use zones::{Gauge, HintState, ZONE_NUMBERS};
 
 // A map, and the stems after its build.
-#[derive(Drop)]
+#[derive(Clone, Copy)]
 pub struct Built {
     pub map: HintMap,
     pub stems: Stems,

@@ -1,5 +1,7 @@
 // The commands of a script (01, "The script"). The part of the script that a function takes, or the
 // words, start at the first command word.
+#![tactic(auto)]
+
 mod faults;
 mod reading;
 

@@ -10,7 +10,7 @@ use words::raw;
 
 // A command that writes nothing: what it asks of the hints. A script with a bad one is refused
 // before it is run.
-#[derive(Drop)]
+#[derive(Clone, Copy)]
 pub enum Marking {
     Bad,
     Stem(Fixed, Fixed),
@@ -20,14 +20,14 @@ pub enum Marking {
     Close,
 }
 
-#[derive(Drop)]
+#[derive(Clone, Copy)]
 pub enum Command {
     Mark(Marking),
     Draw(Path),
 }
 
 // A command, and the word behind its operands.
-#[derive(Drop)]
+#[derive(Clone, Copy)]
 pub struct Read {
     pub command: Command,
     pub next: usize,

@@ -1,4 +1,6 @@
 // Numbers as text: whole ones, and those in 16.16 with every digit that they have.
+#![tactic(auto)]
+
 ghost use Rattle.std.specs.Prelude.{◌+◌, ◌<◌, ◌≤◌, [], ◌∷◌, length};
 ghost use Rattle.decimal.specs.Decimal.{Put, PutInRoom, number_text, fraction_by, size_text, decimal_text};
 

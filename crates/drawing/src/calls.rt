@@ -12,7 +12,7 @@ use pen::{CallAnswer, Drawn, Path, Pen, Point};
 use stems::HintMask;
 use zones::HintState;
 
-#[derive(Drop)]
+#[derive(Clone, Copy)]
 pub struct After {
     pub drawing: Drawing,
     pub answer: CallAnswer,

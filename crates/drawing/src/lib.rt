@@ -1,5 +1,7 @@
 // The calls on a drawing one at a time, and opening one without a script (01, "Path records" and
 // what follows its table).
+#![tactic(auto)]
+
 mod calls;
 mod opening;
 

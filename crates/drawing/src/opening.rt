@@ -9,7 +9,7 @@ use pen::Pen;
 use zones::{BlueZone, HintParams, HintState, MAX_BLUE_ZONES};
 
 // How opening ended.
-#[derive(Drop)]
+#[derive(Clone, Copy)]
 pub enum Opening {
     Ok,
     BadScale,
@@ -17,7 +17,7 @@ pub enum Opening {
 }
 
 // The answer, the zones, and the drawing beside them.
-#[derive(Drop)]
+#[derive(Clone, Copy)]
 pub struct Opened {
     pub answer: Opening,
     pub state: HintState,

@@ -1,6 +1,8 @@
 // Reads a script from standard input and writes, for people, the edges of its map after so many
 // commands as the argument says, or after all of them: a line an edge, and one that counts them. A
 // script that is refused and an argument that is no number give a line that says so.
+#![tactic(auto)]
+
 mod argument;
 mod counts;
 mod line;

@@ -1,4 +1,6 @@
 // Numbers in 16.16: a signed 32-bit integer of 65536ths (01, "Numbers in 16.16").
+#![tactic(auto)]
+
 ghost use Rattle.std.specs.Prelude.{◌≡◌, ◌^◌, ◌<◌, ◌≤◌, min, pos, ◌*ℤ◌, ◌<ℤ◌, unsigned_abs};
 ghost use Rattle.fixed.specs.Integers.{bits_of, signed, wrap32, nearest};
 ghost use Rattle.fixed.specs.Fixed.{from_bits, add_f, sub_f, neg_f, abs_f, twice_f, mul_f, div_f, mul_div_f, round_f};
@@ -82,7 +84,7 @@ pub fn least(a: usize, b: usize) -> usize
 }
 
 // Ports `Fixed`, which hint.rs uses and does not contain.
-#[derive(Drop)]
+#[derive(Clone, Copy)]
 pub struct Fixed {
     pub bits: i32,
 }

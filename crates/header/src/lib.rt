@@ -1,4 +1,6 @@
 // The header and the parameters of a script (01, "The script").
+#![tactic(auto)]
+
 mod checks;
 mod params;
 

@@ -1,5 +1,7 @@
 // Reads a script from standard input, runs it into 16,384 words, and writes the answer's number,
 // its place and, if it is OK, the result, as little-endian words.
+#![tactic(auto)]
+
 mod encode;
 
 ghost use Rattle.std.specs.Prelude.{◌≤◌, length};

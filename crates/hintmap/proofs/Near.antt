@@ -18,7 +18,7 @@ abbrev pub Held : HintMap → Type 0
 Held m = length (the_type.to m).0 ≡ 96
 
 pub held-long : (m : HintMap) → Held m → length m.edges ≡ 96
-held-long m g = simp length-map at g
+held-long m g = g
 
 -- the test of the edge before a place, or of none
 module _ (f : Hint → Bool) (es : List Hint) where

@@ -13,7 +13,7 @@ use stems::{
 };
 
 // What is put in: one edge, or the two of a pair.
-#[derive(Drop)]
+#[derive(Clone, Copy)]
 pub enum Edges {
     One(Hint),
     Two(Hint, Hint),
@@ -21,7 +21,7 @@ pub enum Edges {
 
 // What an insertion comes to: the edges enter at a place, as they are then placed, or they are
 // dropped.
-#[derive(Drop)]
+#[derive(Clone, Copy)]
 pub enum Outcome {
     Enters(usize, Edges),
     Dropped,

@@ -1,5 +1,7 @@
 // A hint map: edges in never-falling character height, by which heights are carried to the device
 // (01, "The map").
+#![tactic(auto)]
+
 mod heights;
 mod insert;
 mod map;

@@ -8,7 +8,7 @@ ghost use Rattle.hintmap.specs.Lent.{map_in};
 use fixed::Fixed;
 use stems::{Hint, LINES, MAX_HINTS, TAGS, edge_at, put_edge};
 
-#[derive(Drop)]
+#[derive(Clone, Copy)]
 pub struct HintMap {
     pub edges: [Hint; MAX_HINTS],
     pub len: usize,

@@ -2,7 +2,7 @@
 use crate::hints::Hints;
 use pen::Pen;
 
-#[derive(Drop)]
+#[derive(Clone, Copy)]
 pub struct Drawing {
     pub hints: Hints,
     pub pen: Pen,

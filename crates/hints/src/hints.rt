@@ -8,7 +8,7 @@ use hintmap::HintMap;
 use stems::{HintMask, MAX_HINTS, StemHint, Stems};
 use zones::HintState;
 
-#[derive(Drop)]
+#[derive(Clone, Copy)]
 pub struct Hints {
     pub stems: Stems,
     pub mask: HintMask,

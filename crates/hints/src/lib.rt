@@ -1,5 +1,7 @@
 // A drawing: its hints, and the strokes that its current map carries (01, "Stems and masks", "The
 // map", "Path records").
+#![tactic(auto)]
+
 mod drawing;
 mod hints;
 mod path;

@@ -7,7 +7,7 @@ use words::Answer;
 // The number of a fault that is a mask's.
 const BAD_MASK: u32 = 5;
 
-#[derive(Drop)]
+#[derive(Clone, Copy)]
 pub enum LabelAnswer {
     // OK, and the words of the result.
     Written(usize),

@@ -1,5 +1,7 @@
 // A label run (request 5 of the licensees' paper 02): up to 64 glyphs under one set of parameters,
 // hinted into one result.
+#![tactic(auto)]
+
 mod counts;
 mod filling;
 mod label_answer;

@@ -13,7 +13,7 @@ pub(crate) const FIXED_HEADER: usize = 2;
 
 // The words of the header and of the glyphs up to one: the last so far, or the first that ends past
 // the room.
-#[derive(Drop)]
+#[derive(Clone, Copy)]
 pub struct Taken {
     pub words: usize,
     pub glyph: usize,

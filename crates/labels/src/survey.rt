@@ -7,7 +7,7 @@ use commands::{Command, fault_in, read_given};
 use pen::Trail;
 use words::Answer;
 
-#[derive(Drop)]
+#[derive(Clone, Copy)]
 pub struct Surveyed {
     pub answer: Answer,
     pub words: usize,

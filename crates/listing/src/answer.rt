@@ -5,7 +5,7 @@ ghost use Rattle.listing.specs.Listing.{list_number, list_summary, list_answer, 
 use crate::summary::{Summary, summarize};
 use hintmap::HintMap;
 
-#[derive(Drop)]
+#[derive(Clone, Copy)]
 pub enum ListAnswer {
     // OK, and the summary of what is listed.
     Listed(Summary),

@@ -1,4 +1,6 @@
 // The edges of a map as records, for whoever draws the map over its glyph (request 2).
+#![tactic(auto)]
+
 mod answer;
 mod as_words;
 mod list;

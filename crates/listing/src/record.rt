@@ -10,7 +10,7 @@ pub const SYNTHETIC: u8 = 96;
 
 // An edge as it stands after the build: its character height, its device height in full, the scale
 // from it on, its kind, its stem and whether it is locked.
-#[derive(Drop)]
+#[derive(Clone, Copy)]
 pub struct EdgeRecord {
     pub height: Fixed,
     pub device: Fixed,
@@ -21,7 +21,7 @@ pub struct EdgeRecord {
 }
 
 // What is counted beside the edges themselves.
-#[derive(Drop)]
+#[derive(Clone, Copy)]
 pub(crate) enum Counted {
     Pairs,
     Ghosts,

@@ -8,7 +8,7 @@ use hintmap::HintMap;
 use stems::MAX_HINTS;
 
 // Edges, pairs by their bottoms, ghosts with the synthetic ones, and locked edges.
-#[derive(Drop)]
+#[derive(Clone, Copy)]
 pub struct Summary {
     pub edges: usize,
     pub pairs: usize,

@@ -5,7 +5,7 @@ ghost use Rattle.overlay.specs.Seen.{seen_number, seen_place, seen_summary, seen
 use listing::{ListAnswer, Summary};
 use words::Answer;
 
-#[derive(Drop)]
+#[derive(Clone, Copy)]
 pub enum SeenAnswer {
     // OK, and the summary of what is listed.
     Listed(Summary),

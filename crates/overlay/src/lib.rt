@@ -1,4 +1,6 @@
 // The edges of a script's map, to be drawn over its glyph (request 2).
+#![tactic(auto)]
+
 mod answer;
 mod seeing;
 

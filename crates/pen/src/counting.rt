@@ -6,14 +6,14 @@ use crate::records::{BARE_RECORD, CURVE_RECORD, POINT_RECORD};
 use crate::strokes::{Path, Start};
 
 // What decides it: the start of the open path, and the character point of the line that waits.
-#[derive(Drop)]
+#[derive(Clone, Copy)]
 pub struct Trail {
     pub start: Start,
     pub waiting: Start,
 }
 
 // The trail behind a call, and the words of the call.
-#[derive(Drop)]
+#[derive(Clone, Copy)]
 pub struct Counted {
     pub trail: Trail,
     pub words: usize,

@@ -2,14 +2,14 @@
 use crate::strokes::Pen;
 
 // With so many words, or with too little room.
-#[derive(Drop)]
+#[derive(Clone, Copy)]
 pub enum CallAnswer {
     Wrote(usize),
     NoRoom,
 }
 
 // What is left of the pen, and how the call ended.
-#[derive(Drop)]
+#[derive(Clone, Copy)]
 pub struct Drawn {
     pub pen: Pen,
     pub answer: CallAnswer,

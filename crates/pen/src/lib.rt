@@ -1,4 +1,6 @@
 // The pen of a drawing, and the record words that its strokes write (01, "Path records").
+#![tactic(auto)]
+
 mod counting;
 mod drawn;
 mod records;

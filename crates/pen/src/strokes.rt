@@ -20,14 +20,14 @@ pub const CLOSE: i32 = 4;
 
 pub const FINISH: i32 = 5;
 
-#[derive(Drop)]
+#[derive(Clone, Copy)]
 pub struct Point {
     pub x: Fixed,
     pub y: Fixed,
 }
 
 // What a call asks of the pen.
-#[derive(Drop)]
+#[derive(Clone, Copy)]
 pub enum Path {
     Move(Point),
     Line(Point),
@@ -36,20 +36,20 @@ pub enum Path {
 }
 
 // The start of the open path, in character space.
-#[derive(Drop)]
+#[derive(Clone, Copy)]
 pub enum Start {
     Absent,
     At(Point),
 }
 
 // The line that waits, in character space and on the device.
-#[derive(Drop)]
+#[derive(Clone, Copy)]
 pub enum Waiting {
     Absent,
     Line(Point, Point),
 }
 
-#[derive(Drop)]
+#[derive(Clone, Copy)]
 pub struct Pen {
     pub start: Start,
     pub waiting: Waiting,

@@ -14,7 +14,7 @@ use zones::{Blue, Blues, HintParams, MAX_BLUES};
 
 // What a script says beside its command words and mask bytes, and how many of these there are;
 // zeros beside a refusal.
-#[derive(Drop)]
+#[derive(Clone, Copy)]
 pub struct ReadBack {
     pub answer: Answer,
     pub scale: Fixed,

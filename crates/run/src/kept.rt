@@ -17,7 +17,7 @@ use zones::{Gauge, ZONE_NUMBERS};
 
 // How many stems there are, how long the initial map and the current one are, and whether each is
 // built. The two marks stand last, so that no gap between numbers is copied in odd parts.
-#[derive(Drop)]
+#[derive(Clone, Copy)]
 pub struct Sizes {
     pub stems: usize,
     pub initial: usize,

@@ -1,4 +1,6 @@
 // A run of commands over a new drawing, into an output (01, "The script").
+#![tactic(auto)]
+
 mod hinting;
 mod kept;
 mod marks;

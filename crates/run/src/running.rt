@@ -16,7 +16,7 @@ use words::Answer;
 use zones::{Gauge, HintState, ZONE_NUMBERS};
 
 // How a run ended: the answer, and the record words that were written.
-#[derive(Drop)]
+#[derive(Clone, Copy)]
 pub struct Ran {
     pub answer: Answer,
     pub words: usize,

@@ -1,4 +1,6 @@
 // A whole script: checked, then run into a lent output (01, "The script").
+#![tactic(auto)]
+
 mod checking;
 mod count;
 mod maps;

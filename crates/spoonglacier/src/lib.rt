@@ -1,4 +1,6 @@
 // The functions that a program in C links; include/spoonglacier.h declares them.
+#![tactic(auto)]
+
 ghost use Rattle.fixed.specs.Fixed.{from_bits};
 ghost use Rattle.script.specs.Script.{script_of};
 ghost use Rattle.writer.specs.ToWrite.{given};

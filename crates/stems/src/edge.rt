@@ -12,7 +12,7 @@ pub const MAX_HINTS: usize = 96;
 // pair.
 pub const LAST_HINT: usize = 95;
 
-#[derive(Drop)]
+#[derive(Clone, Copy)]
 pub struct StemHint {
     pub is_used: bool,
     pub min: Fixed,
@@ -22,14 +22,14 @@ pub struct StemHint {
 }
 
 // The stems that are declared.
-#[derive(Drop)]
+#[derive(Clone, Copy)]
 pub struct Stems {
     pub list: [StemHint; MAX_HINTS],
     pub count: usize,
 }
 
 // What an edge is: no edge, the one edge of a ghost, or one of the two of a pair.
-#[derive(Drop)]
+#[derive(Clone, Copy)]
 pub enum Kind {
     Absent,
     GhostBottom,
@@ -39,13 +39,13 @@ pub enum Kind {
 }
 
 // Bottom or top: of a stem's two edges, and of zones.
-#[derive(Drop)]
+#[derive(Clone, Copy)]
 pub enum Side {
     Bottom,
     Top,
 }
 
-#[derive(Drop)]
+#[derive(Clone, Copy)]
 pub struct Hint {
     pub kind: Kind,
     pub locked: bool,
@@ -57,7 +57,7 @@ pub struct Hint {
 }
 
 // What a stem's width makes of it: a ghost at a height, or a pair of two.
-#[derive(Drop)]
+#[derive(Clone, Copy)]
 pub enum Shape {
     BottomGhost(Fixed),
     TopGhost(Fixed),

@@ -1,4 +1,6 @@
 // Masks of active stems, stems, and the edges that a stem has (01, "Stems and masks").
+#![tactic(auto)]
+
 mod edge;
 mod lists;
 mod mask;

@@ -8,7 +8,7 @@ use crate::edge::{LAST_HINT, MAX_HINTS};
 // A bit for each of `MAX_HINTS` stems.
 pub const HINT_MASK_SIZE: usize = 12;
 
-#[derive(Drop)]
+#[derive(Clone, Copy)]
 pub struct HintMask {
     pub bytes: [u8; HINT_MASK_SIZE],
 }

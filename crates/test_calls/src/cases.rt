@@ -7,7 +7,7 @@ use pen::CallAnswer;
 use zones::HintState;
 
 // What a call of a row leaves: the drawing, where the row goes on, and whether all was as expected.
-#[derive(Drop)]
+#[derive(Clone, Copy)]
 pub(crate) struct Turn {
     pub drawing: Drawing,
     pub next: usize,

@@ -2,6 +2,8 @@
 // differ. `python3 -m model` makes its input, from model/tables/calls.py. The answers of the first
 // table are worked by hand from 01; those of the others come from model/calls.py. The head of
 // model/ says what had been read before that was written.
+#![tactic(auto)]
+
 mod calls;
 mod cases;
 mod lent;

@@ -16,13 +16,13 @@ const HELD_LIST: usize = 600;
 const HELD_CASE: usize = HELD_BYTES + 8 * HELD_LIST;
 
 // What the edges of a table's cases are listed into.
-#[derive(Drop)]
+#[derive(Clone, Copy)]
 pub(crate) enum Cases {
     Words,
     Records,
 }
 
-#[derive(Drop)]
+#[derive(Clone, Copy)]
 pub(crate) enum Seen {
     // The file ends within the case, or the case is too large.
     Cut,

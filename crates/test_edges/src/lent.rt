@@ -10,7 +10,7 @@ use listing::{EdgeRecord, ListAnswer, list_edges};
 pub(crate) const LENT_RECORDS: usize = 12;
 
 // The answer, and what is left in the list.
-#[derive(Drop)]
+#[derive(Clone, Copy)]
 pub(crate) struct Lent {
     pub answer: ListAnswer,
     pub records: [EdgeRecord; LENT_RECORDS],

@@ -1,5 +1,7 @@
 // Lists the edges of scripts' maps whose records are stored, and says of each table how many were
 // run and how many differ.
+#![tactic(auto)]
+
 mod cases;
 mod judging;
 mod lent;

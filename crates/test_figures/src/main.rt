@@ -2,6 +2,8 @@
 // many differ. `python3 -m model` makes its input, from model/tables/figures.py. The expected
 // values are those of the model of 01 there, in which no other code of the project takes part; its
 // head says what had been read before it was written.
+#![tactic(auto)]
+
 mod captures;
 mod edges;
 mod masks;

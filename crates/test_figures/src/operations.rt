@@ -5,7 +5,7 @@ use crate::tables::Rows;
 use fixed::Fixed;
 
 // What a table runs: a method of `Fixed`, or the constants.
-#[derive(Drop)]
+#[derive(Clone, Copy)]
 pub(crate) enum Operation {
     Mul,
     Div,

@@ -3,7 +3,7 @@ use crate::operations::Operation;
 use crate::{captures, edges, masks, operations, states};
 
 // What the rows of a table are about.
-#[derive(Drop)]
+#[derive(Clone, Copy)]
 pub(crate) enum Rows {
     Numbers(Operation),
     Masks,

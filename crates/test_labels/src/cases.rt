@@ -16,7 +16,7 @@ const HELD_BYTES: usize = 64;
 // The bytes of all parts of a case.
 const HELD_CASE: usize = 4 * (HELD_WORDS + 2 * HELD_OUTPUT) + HELD_BYTES;
 
-#[derive(Drop)]
+#[derive(Clone, Copy)]
 pub(crate) enum Seen {
     // The file ends within the case, or the case is too large.
     Cut,

@@ -1,5 +1,7 @@
 // Makes label runs whose results are stored, and says of each table how many were run and how many
 // differ.
+#![tactic(auto)]
+
 mod cases;
 mod judging;
 mod report;

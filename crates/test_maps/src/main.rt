@@ -1,6 +1,8 @@
 // Runs the figures of maps and of their building, and says of each table how many rows were run and
 // how many differ. `python3 -m model` makes its input, from model/tables/maps.py, with the expected
 // values of model/hintmap.py. The head of model/ says what had been read before that was written.
+#![tactic(auto)]
+
 mod builds;
 mod edges;
 mod maps;

@@ -2,7 +2,7 @@
 use crate::{builds, maps};
 
 // What the rows of a table are about.
-#[derive(Drop)]
+#[derive(Clone, Copy)]
 pub(crate) enum Rows {
     Maps,
     Builds,

@@ -6,7 +6,7 @@ use readback::read_back;
 use writer::{WriteAnswer, write_script};
 
 // What becomes of a script.
-#[derive(Drop)]
+#[derive(Clone, Copy)]
 pub(crate) enum Again {
     // The reader refuses it.
     NotRead,

@@ -4,7 +4,7 @@ use io::{print_decimal, write_all};
 use libc::STDOUT_FILENO;
 use std::num::wrapping_add_usize;
 
-#[derive(Drop)]
+#[derive(Clone, Copy)]
 pub(crate) struct AgainTally {
     pub same_bytes: usize,
     pub other_bytes: usize,

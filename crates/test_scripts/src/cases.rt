@@ -5,7 +5,7 @@ use crate::again::{Again, script_again};
 use crate::judging::{Verdict, judged};
 use words::natural;
 
-#[derive(Drop)]
+#[derive(Clone, Copy)]
 pub(crate) enum Seen {
     // The file ends within the case, or the case is too large.
     Cut,
@@ -13,7 +13,7 @@ pub(crate) enum Seen {
 }
 
 // A case's number and mark, as stored, how its run differs, and what becomes of its script.
-#[derive(Drop)]
+#[derive(Clone, Copy)]
 pub(crate) struct Judged {
     pub number: usize,
     pub mark: usize,

@@ -10,7 +10,7 @@ use test_tables::first_word;
 use words::{natural, number};
 
 // Where a run first differs from what is stored.
-#[derive(Drop)]
+#[derive(Clone, Copy)]
 pub(crate) enum Verdict {
     Same,
     Number,

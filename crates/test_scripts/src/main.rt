@@ -2,6 +2,8 @@
 // differ: tables made from 01, and a sample of the comparison with the Rust. Of the sample it says
 // too how many end with each of 01's numbers, and to how many the Rust answers otherwise. Of both
 // it says how many scripts are the same bytes when they are read back and written again.
+#![tactic(auto)]
+
 mod again;
 mod again_tally;
 mod cases;

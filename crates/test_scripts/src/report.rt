@@ -9,7 +9,7 @@ use test_tables::{case_count, case_cut, case_differs, case_differs_at, end_of_ca
 
 // How many cases of a table were run, how many of them differ, how many are marked, how many have
 // each number; and what becomes of scripts, those of the tables before it too.
-#[derive(Drop)]
+#[derive(Clone, Copy)]
 struct Tally {
     run: usize,
     differ: usize,

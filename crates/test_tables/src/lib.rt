@@ -1,5 +1,7 @@
 // Rows of numbers and cases as the programs of figures read them, what they say of a table, where words
 // differ from those that are stored, and the verdict on a case.
+#![tactic(auto)]
+
 mod cases;
 mod differing;
 mod given;

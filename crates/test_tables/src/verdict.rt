@@ -9,7 +9,7 @@ use std::num::wrapping_add_usize;
 // So many differences of a table are said.
 const MOST_SAID: usize = 10;
 
-#[derive(Drop)]
+#[derive(Clone, Copy)]
 pub enum Verdict {
     Same,
     // The answer.
@@ -34,7 +34,7 @@ pub fn judge(same: bool, left: &[i32], stored: &[u8]) -> Verdict
 }
 
 // How many cases were run, and how many of them differ.
-#[derive(Drop)]
+#[derive(Clone, Copy)]
 pub struct Tally {
     pub run: usize,
     pub differ: usize,

@@ -9,7 +9,7 @@ pub(crate) const HELD_WORDS: usize = 16400;
 
 pub(crate) const HELD_BYTES: usize = 65600;
 
-#[derive(Drop)]
+#[derive(Clone, Copy)]
 pub(crate) enum Seen {
     // The file ends within the case, or the case is too large.
     Cut,

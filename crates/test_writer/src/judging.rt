@@ -18,7 +18,7 @@ use writer::{WriteAnswer, params_from, write_script};
 
 // What first differs from what is stored. A word is one of the buffer for commands, and a byte one
 // of the buffer for the script or for masks.
-#[derive(Drop)]
+#[derive(Clone, Copy)]
 pub(crate) enum Verdict {
     Same,
     Number,

@@ -1,5 +1,7 @@
 // Writes and reads back scripts whose answers are stored, and says of each table how many were run
 // and how many differ.
+#![tactic(auto)]
+
 mod cases;
 mod comparing;
 mod judging;

@@ -7,14 +7,14 @@ use std::num::wrapping_add_usize;
 use test_tables::{case_count, case_cut, case_differs, case_differs_at, end_of_cases, read_bytes};
 
 // What the cases of a table are.
-#[derive(Drop)]
+#[derive(Clone, Copy)]
 enum Cases {
     Written,
     Read,
 }
 
 // How many cases were run, and how many of them differ.
-#[derive(Drop)]
+#[derive(Clone, Copy)]
 struct Tally {
     run: usize,
     differ: usize,

@@ -1,4 +1,6 @@
 // The words of a script (01, "The script"), and the answers that a script can get.
+#![tactic(auto)]
+
 mod answer;
 pub mod layout;
 mod read;

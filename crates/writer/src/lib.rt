@@ -1,5 +1,7 @@
 // A script from what it is to say (request 1 of the licensees' paper 02): scale, parameters,
 // command words and mask bytes.
+#![tactic(auto)]
+
 mod param_words;
 mod parts;
 mod pieces;

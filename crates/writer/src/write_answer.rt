@@ -4,7 +4,7 @@ ghost use Rattle.writer.specs.Refusals.{write_number, write_place, written_bytes
 
 use words::layout;
 
-#[derive(Drop)]
+#[derive(Clone, Copy)]
 pub enum WriteAnswer {
     // OK, and the bytes of the script.
     Written(usize),

@@ -1,8 +1,9 @@
 -- Laws of the search among a family's edges. Assumes nothing.
 use mathlib.Core.Path.{◌≡◌, refl}
 use mathlib.Core.Bool.{true, false, cond}
-use mathlib.Core.List.{List, ◌∷◌, map}
-use Prim.Native.Nat.{ℕ, suc, ◌+◌, ◌≤◌, ◌<◌}
+use mathlib.Core.List.{List, [], ◌∷◌, map}
+use Prim.Native.Nat.{ℕ, zero, suc, ◌+◌, ◌≤◌, ◌<◌}
+use native.Mathlib.Omega.{arith}
 use lib.ListN.{length, take, drop, get_or}
 use Rattle.fixed.specs.declared.Fixed.{Fixed}
 use Rattle.fixed.specs.Fixed.{ZERO, same_f}
@@ -50,4 +51,6 @@ module _ (flat limit : Fixed) (near : Nearest) where
   pub first_some : (n : ℕ) (bs : List Blue) → 0 < n → 0 < length bs →
       first_too flat limit near (take n bs) ≡ nearer flat limit near (get_or bs 0 no_blue).top
   unfolding first_too
+  first_some zero bs some l = absurd (omega arith)
+  first_some (suc n) [] some l = absurd (omega arith)
   first_some (suc n) (b ∷ bs) some l = refl

@@ -16,19 +16,19 @@ pub const MAX_OTHER_BLUES: usize = 5;
 pub const MAX_BLUE_ZONES: usize = 12;
 
 // A pair of character heights.
-#[derive(Drop)]
+#[derive(Clone, Copy)]
 pub struct Blue {
     pub bottom: Fixed,
     pub top: Fixed,
 }
 
-#[derive(Drop)]
+#[derive(Clone, Copy)]
 pub struct Blues {
     pub pairs: [Blue; MAX_BLUES],
     pub count: usize,
 }
 
-#[derive(Drop)]
+#[derive(Clone, Copy)]
 pub struct BlueZone {
     pub is_bottom: bool,
     pub cs_bottom_edge: Fixed,
@@ -38,7 +38,7 @@ pub struct BlueZone {
 }
 
 // Zones as they are kept, with the greatest of their heights, or 0.
-#[derive(Drop)]
+#[derive(Clone, Copy)]
 pub struct Zones {
     pub list: [BlueZone; MAX_BLUE_ZONES],
     pub count: usize,
@@ -46,7 +46,7 @@ pub struct Zones {
 }
 
 // The family edge nearest to a flat edge so far, and how far it is.
-#[derive(Drop)]
+#[derive(Clone, Copy)]
 pub struct Nearest {
     pub edge: Fixed,
     pub diff: Fixed,

@@ -12,14 +12,14 @@ use fixed::{Fixed, least};
 use stems::Hint;
 
 // The zone that holds one of the edges, if there is one.
-#[derive(Drop)]
+#[derive(Clone, Copy)]
 pub enum Held {
     By(BlueZone),
     Free,
 }
 
 // A stem's edges after capture, and whether they were captured, or locked before it.
-#[derive(Drop)]
+#[derive(Clone, Copy)]
 pub struct Captured {
     pub captured: bool,
     pub bottom: Hint,

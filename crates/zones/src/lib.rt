@@ -1,4 +1,6 @@
 // Blue zones, and the capture of a stem's edges by them (01, "Zones").
+#![tactic(auto)]
+
 mod blues;
 mod capture;
 mod numbers;

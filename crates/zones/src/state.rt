@@ -6,7 +6,7 @@ ghost use Rattle.zones.specs.State.{counts_fit, em_box, kept_of, clamped_scale, 
 use crate::blues::{BlueZone, Blues, MAX_BLUE_ZONES, MAX_BLUES, MAX_OTHER_BLUES, Zones};
 use fixed::{Fixed, least};
 
-#[derive(Drop)]
+#[derive(Clone, Copy)]
 pub struct HintParams {
     pub blue_scale: Fixed,
     pub blue_shift: Fixed,
@@ -18,7 +18,7 @@ pub struct HintParams {
     pub family_other_blues: Blues,
 }
 
-#[derive(Drop)]
+#[derive(Clone, Copy)]
 pub struct HintState {
     pub scale: Fixed,
     pub blue_scale: Fixed,
@@ -32,7 +32,7 @@ pub struct HintState {
 }
 
 // A state's numbers without its zones, which a list holds beside them.
-#[derive(Drop)]
+#[derive(Clone, Copy)]
 pub struct Gauge {
     pub scale: Fixed,
     pub blue_scale: Fixed,

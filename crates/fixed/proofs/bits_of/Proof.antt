@@ -16,25 +16,25 @@ above : (z : ℤ) → SFits w32 z → lt_z z (pos 0) ≡ false → of_z w32 z < 
 above (pos n) f e = f.sfits
 above (negsuc n) f e = absurd (true≢false e)
 
-flipped : (c : tie.Then1) → 4294967295 - of_z w32 c.before.args.x < 2147483648
-flipped c = below c.before.args.x c.before.ranges.x (rw (to_z-of_z c.before.ranges.x) at c.if1.true)
+flipped : (c : tie.Then-x-lt0) → 4294967295 - of_z w32 c.args.x < 2147483648
+flipped c = below c.args.x c.ranges.x (rw (to_z-of_z c.ranges.x) at c.if-x-lt0.true)
 
-plain : (c : tie.Else1) → of_z w32 c.before.args.x < 2147483648
-plain c = above c.before.args.x c.before.ranges.x (rw (to_z-of_z c.before.ranges.x) at c.if1.false)
+plain : (c : tie.Else-x-lt0) → of_z w32 c.args.x < 2147483648
+plain c = above c.args.x c.ranges.x (rw (to_z-of_z c.ranges.x) at c.if-x-lt0.false)
 
-cast-result : tie.Need-overflow-cast-result
+cast-result : tie.Need-overflow_cast-result
 cast-result c = rw (to_z_pos w32 (flipped c)) (tt, record { fits = omega (arith, flipped c) })
 
-returns : tie.Need-returns
+returns : tie.Need-returns-then-x-lt0
 returns c =
-    let f = c.before.ranges.x in
-    rw (to_z_pos w32 (flipped c), whole-low c.before.args.x f) (omega (arith, (Fits-of_z f).fits))
+    let f = c.ranges.x in
+    rw (to_z_pos w32 (flipped c), whole-low c.args.x f) (omega (arith, (Fits-of_z f).fits))
 
-cast-result-2 : tie.Need-overflow-cast-result-2
+cast-result-2 : tie.Need-overflow_cast-result-2
 cast-result-2 c = rw (to_z_pos w32 (plain c)) (tt, record { fits = omega (arith, plain c) })
 
-returns-2 : tie.Need-returns-2
-returns-2 c = rw (to_z_pos w32 (plain c)) (sym (whole-low c.before.args.x c.before.ranges.x))
+returns-2 : tie.Need-returns
+returns-2 c = rw (to_z_pos w32 (plain c)) (sym (whole-low c.args.x c.ranges.x))
 
-pub bits-of-spec : {M : Type 1} → statement M
-bits-of-spec = tie.close (tie.spec cast-result returns cast-result-2 returns-2)
+pub bits_of_spec : {M : Type 1} → statement M
+bits_of_spec = tie.close (tie.spec cast-result returns cast-result-2 returns-2)

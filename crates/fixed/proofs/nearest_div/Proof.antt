@@ -23,49 +23,49 @@ module _ (s : tie.Start) where
   less : (nat_abs s.args.p + s.args.d / 2) / s.args.d < 2 ^ 63
   less = lt_of_le_of_lt (div-le_self _ s.args.d) big
 
-module _ (c : tie.Then1) where
-  neg : lt_z c.before.args.p (pos 0) ≡ true
-  neg = rw (pp c.before) at c.if1.true
+module _ (c : tie.Then-p-lt0) where
+  neg : lt_z c.args.p (pos 0) ≡ true
+  neg = rw (pp c.before) at c.if-p-lt0.true
 
-  down : to_z w64 (of_z w64 c.before.args.p) -ℤ to_z w64 (c.before.args.d / 2) ≡
-      neg_ℤ (pos (nat_abs c.before.args.p + c.before.args.d / 2))
-  down = rw (pp c.before, hh c.before) (down_is c.before.args.p (c.before.args.d / 2) neg)
+  down : to_z w64 (of_z w64 c.args.p) -ℤ to_z w64 (c.args.d / 2) ≡
+      neg_ℤ (pos (nat_abs c.args.p + c.args.d / 2))
+  down = rw (pp c.before, hh c.before) (down_is c.args.p (c.args.d / 2) neg)
 
-module _ (c : tie.Else1) where
-  notneg : lt_z c.before.args.p (pos 0) ≡ false
-  notneg = rw (pp c.before) at c.if1.false
+module _ (c : tie.Else-p-lt0) where
+  notneg : lt_z c.args.p (pos 0) ≡ false
+  notneg = rw (pp c.before) at c.if-p-lt0.false
 
-  above : to_z w64 (of_z w64 c.before.args.p) +ℤ to_z w64 (c.before.args.d / 2) ≡
-      pos (nat_abs c.before.args.p + c.before.args.d / 2)
-  above = rw (pp c.before, hh c.before) (up_is c.before.args.p (c.before.args.d / 2) notneg)
+  above : to_z w64 (of_z w64 c.args.p) +ℤ to_z w64 (c.args.d / 2) ≡
+      pos (nat_abs c.args.p + c.args.d / 2)
+  above = rw (pp c.before, hh c.before) (up_is c.args.p (c.args.d / 2) notneg)
 
-sub-result : tie.Need-overflow-sub-result
+sub-result : tie.Need-overflow_sub-result
 sub-result c = rw (down c) (neg-fits _ (big c.before))
 
-div-result : tie.Need-nonzero-div-result
+div-result : tie.Need-nonzero_div-result
 div-result c = (
-  c.before.requires.1,
+  c.requires.1,
   rw (down c, to_z-of_z (neg-fits _ (big c.before)), dd c.before, quot-neg)
       (neg-fits _ (less c.before)),
 )
 
-add-result : tie.Need-overflow-add-result
+add-result : tie.Need-overflow_add-result
 add-result c = rw (above c) (abs-fits _ (big c.before))
 
-div-result-2 : tie.Need-nonzero-div-result-2
+div-result-2 : tie.Need-nonzero_div-result-2
 div-result-2 c = (
-  c.before.requires.1,
+  c.requires.1,
   rw (above c, to_z-of_z (abs-fits _ (big c.before)), dd c.before)
       (abs-fits _ (less c.before)),
 )
 
-returns : tie.Need-returns
+returns : tie.Need-returns-then-p-lt0
 returns c =
     let s = c.before in
     rw (down c, to_z-of_z (neg-fits _ (big s)), dd s, quot-neg, to_z-of_z (neg-fits _ (less s)))
     (nearest-below s.args.p s.args.d (neg c))
 
-returns-2 : tie.Need-returns-2
+returns-2 : tie.Need-returns
 returns-2 c =
     let s = c.before in
     rw (
@@ -76,7 +76,7 @@ returns-2 c =
     )
     (nearest-above s.args.p s.args.d (notneg c))
 
-pub nearest-div-spec : {M : Type 1} → statement M
-nearest-div-spec =
+pub nearest_div_spec : {M : Type 1} → statement M
+nearest_div_spec =
     tie.close
     (tie.spec (λ c. search rules) (λ c. search rules) sub-result div-result returns add-result div-result-2 returns-2)

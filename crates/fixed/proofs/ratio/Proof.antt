@@ -6,24 +6,24 @@ use Rattle.fixed.proofs.ratio.Statement.{statement}
 use Rattle.fixed.proofs.ratio.Tie as tie
 
 module _ (c : tie.After-product) where
-  exact : c.product.result ≡ c.before.args.a *ℤ c.before.args.b
-  exact = c.product.ensures ∙ rw (to_z-of_z c.before.ranges.a, to_z-of_z c.before.ranges.b)
+  exact : c.product.result ≡ c.args.a *ℤ c.args.b
+  exact = c.product.ensures ∙ rw (to_z-of_z c.ranges.a, to_z-of_z c.ranges.b)
 
-nearest-div-requires : tie.Need-nearest-div-requires
+nearest-div-requires : tie.Need-nearest_div-requires
 nearest-div-requires c κs =
     let s = c.before in
-    (rw (read w64 c.product.result c.product.type-inv, exact c) (mul-bound _ _ s.ranges.a s.ranges.b), s.requires)
+    (rw (read w64 c.product.result c.product.type_inv, exact c) (mul-bound _ _ s.ranges.a s.ranges.b), s.requires)
 
 returns : tie.Need-returns
 returns c =
-    let product = c.before.before.product in
-    let near = c.before.nearest-div in
+    let product = c.product in
+    let near = c.nearest_div in
     cc (
       exact c.before.before,
-      read w64 product.result product.type-inv,
-      read w64 near.result near.type-inv,
-      read w32 c.wrap.result c.wrap.type-inv,
+      read w64 product.result product.type_inv,
+      read w64 near.result near.type_inv,
+      read w32 c.wrap.result c.wrap.type_inv,
     )
 
-pub ratio-spec : {M : Type 1} → statement M
-ratio-spec = tie.close (tie.spec (λ c κs. search rules) nearest-div-requires (λ c κs. search rules) returns)
+pub ratio_spec : {M : Type 1} → statement M
+ratio_spec = tie.close (tie.spec (λ c κs. search rules) nearest-div-requires (λ c κs. search rules) returns)

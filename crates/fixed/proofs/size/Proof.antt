@@ -12,38 +12,38 @@ use Rattle.fixed.proofs.size.Tie as tie
 small : (s : tie.Start) → nat_abs s.args.x ≤ 2147483648
 small s = nat_abs-le s.args.x s.ranges.x.sfits
 
-minus : (c : tie.Then1) → pos 0 -ℤ c.before.args.x ≡ pos (nat_abs c.before.args.x)
+minus : (c : tie.Then-x-lt0) → pos 0 -ℤ c.args.x ≡ pos (nat_abs c.args.x)
 minus c =
-    +ℤ_idl (neg_ℤ c.before.args.x) ∙
-    abs-below c.before.args.x (rw (to_z-of_z c.before.ranges.x) at c.if1.true)
+    +ℤ_idl (neg_ℤ c.args.x) ∙
+    abs-below c.args.x (rw (to_z-of_z c.ranges.x) at c.if-x-lt0.true)
 
-fits : (c : tie.Then1) → SFits w64 (pos (nat_abs c.before.args.x))
-fits c = abs-fits (pos (nat_abs c.before.args.x)) (omega (arith, small c.before))
+fits : (c : tie.Then-x-lt0) → SFits w64 (pos (nat_abs c.args.x))
+fits c = abs-fits (pos (nat_abs c.args.x)) (omega (arith, small c.before))
 
-not : (c : tie.Else1) → T (B.not (lt_z c.before.args.x (pos 0)))
-not c = subst (λ (b : B.Bool). T (B.not b)) (sym (rw (to_z-of_z c.before.ranges.x) at c.if1.false)) tt
+not : (c : tie.Else-x-lt0) → T (B.not (lt_z c.args.x (pos 0)))
+not c = subst (λ (b : B.Bool). T (B.not b)) (sym (rw (to_z-of_z c.ranges.x) at c.if-x-lt0.false)) tt
 
-sub-result : tie.Need-overflow-sub-result
-sub-result c = rw (widened _ c.before.ranges.x, minus c) (fits c)
+sub-result : tie.Need-overflow_sub-result
+sub-result c = rw (widened _ c.ranges.x, minus c) (fits c)
 
-cast-result-2 : tie.Need-overflow-cast-result-2
+cast-result-2 : tie.Need-overflow_cast-result-then-x-lt0
 cast-result-2 c =
-    rw (widened _ c.before.ranges.x, minus c, to_z-of_z (fits c))
+    rw (widened _ c.ranges.x, minus c, to_z-of_z (fits c))
     (tt, record { fits = omega (arith, small c.before) })
 
-cast-result-3 : tie.Need-overflow-cast-result-3
+cast-result-3 : tie.Need-overflow_cast-result-2
 cast-result-3 c =
-    rw (to_z-of_z c.before.ranges.x) (
-      yes_non_neg {z = c.before.args.x} (lt_z_no {a = c.before.args.x} (not c)),
+    rw (to_z-of_z c.ranges.x) (
+      yes_non_neg {z = c.args.x} (lt_z_no {a = c.args.x} (not c)),
       record { fits = omega (arith, small c.before) },
     )
 
-returns : tie.Need-returns
-returns c = rw (widened _ c.before.ranges.x, minus c, to_z-of_z (fits c))
+returns : tie.Need-returns-then-x-lt0
+returns c = rw (widened _ c.ranges.x, minus c, to_z-of_z (fits c))
 
-returns-2 : tie.Need-returns-2
+returns-2 : tie.Need-returns
 returns-2 c = search rules
 
-pub size-spec : {M : Type 1} → statement M
-size-spec =
+pub size_spec : {M : Type 1} → statement M
+size_spec =
     tie.close (tie.spec (λ c. search (rules, wide)) sub-result cast-result-2 returns cast-result-3 returns-2)

@@ -12,12 +12,12 @@ use Rattle.fixed.proofs.wrap.Tie as tie
 low : (z : ℤ) → SFits w64 z → to_z w64 (bit_and (of_z w64 z) 4294967295) ≡ pos (low_bits 32 z)
 low z h = ap (to_z w64) (masked 32 32 refl z h) ∙ to_z_pos w64 (omega (arith, low-lt 32 z))
 
-cast_signed : tie.Need-overflow-cast-signed
+cast_signed : tie.Need-overflow_cast-x
 cast_signed c = rw (low _ c.ranges.x) (tt, record { fits = low-lt 32 _ })
 
 returns : tie.Need-returns
 unfolding wrap32
-returns c = read w32 c.signed.result c.signed.type-inv ∙ c.signed.ensures ∙ rw (low _ c.before.ranges.x)
+returns c = read w32 c.signed.result c.signed.type_inv ∙ c.signed.ensures ∙ rw (low _ c.ranges.x)
 
 pub wrap_spec : {M : Type 1} → statement M
 wrap_spec = tie.close (tie.spec cast_signed (λ c κs. search rules) returns)

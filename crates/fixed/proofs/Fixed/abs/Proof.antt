@@ -9,18 +9,18 @@ module _ (s : tie.Start) where
   fs : SFits w32 s.args.self.bits
   fs = search rules
 
-returns : tie.Need-returns
+returns : tie.Need-returns-then-less
 unfolding abs_f neg_f
 returns c =
     let l = c.before.before in
     c.neg.ensures ∙ ap wrap_f
-    (abs-below l.before.args.self.bits (sym l.less.ensures ∙ c.before.if1.true))
+    (abs-below l.args.self.bits (sym l.less.ensures ∙ c.if-less.true))
 
-returns-2 : tie.Need-returns-2
+returns-2 : tie.Need-returns
 unfolding abs_f
 returns-2 c =
     let l = c.before in
-    ap from_bits (abs-above _ (fs l.before) (sym l.less.ensures ∙ c.if1.false))
+    ap from_bits (abs-above _ (fs l.before) (sym l.less.ensures ∙ c.if-less.false))
 
-pub abs-spec : {M : Type 1} → statement M
-abs-spec = tie.close (tie.spec (λ c κs. search rules) (λ c κs. search rules) returns returns-2)
+pub abs_spec : {M : Type 1} → statement M
+abs_spec = tie.close (tie.spec (λ c κs. search rules) (λ c κs. search rules) returns returns-2)

@@ -21,9 +21,9 @@ returns c =
     let w = c.before in
     let b = w.before.before.before in
     let s = b.before.before in
-    let e = simp (w.before.bits-of2.ensures, b.bits_of.ensures, to_z-of_z (fs s), to_z-of_z (fb s)) at
-    w.wrapping-add-u32.ensures in
-    ap from_bits (read w32 c.signed.result c.signed.type-inv ∙ c.signed.ensures ∙
+    let e = simp (w.bits_of-2.ensures, b.bits_of.ensures, to_z-of_z (fs s), to_z-of_z (fb s)) at
+    w.wrapping_add_u32-sum.ensures in
+    ap from_bits (read w32 c.signed.result c.signed.type_inv ∙ c.signed.ensures ∙
     ap signed (e ∙ low-add _ _ (wide (fs s)) (wide (fb s)) (add-fits (fs s) (fb s))))
 
 pub add_spec : {M : Type 1} → statement M

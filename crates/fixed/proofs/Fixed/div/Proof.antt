@@ -23,12 +23,12 @@ module _ (c : tie.After-size) where
   begin = c.before.before.before.before.before.before.before.before
 
   below : lt_z begin.args.b.bits (pos 0) ≡ true
-  below = rw (to_z-of_z (fb begin)) at c.before.before.if3.true
+  below = rw (to_z-of_z (fb begin)) at c.if-b-lt0.true
 
   divisor : c.size.result ≡ nat_abs begin.args.b.bits
   divisor = c.size.ensures ∙ rw (to_z-of_z (fb begin))
 
-module _ (c : tie.After-size2) where
+module _ (c : tie.After-size-2) where
   abbrev begin-2 : tie.Start
   begin-2 = c.before.before.before.before.before.before.before.before
 
@@ -36,34 +36,34 @@ module _ (c : tie.After-size2) where
   nonzero = search rules
 
   above : lt_z begin-2.args.b.bits (pos 0) ≡ false
-  above = rw (to_z-of_z (fb begin-2)) at c.before.before.if3.false
+  above = rw (to_z-of_z (fb begin-2)) at c.if-b-lt0.false
 
-  divisor-2 : c.size2.result ≡ nat_abs begin-2.args.b.bits
-  divisor-2 = c.size2.ensures ∙ rw (to_z-of_z (fb begin-2))
+  divisor-2 : c.size-2.result ≡ nat_abs begin-2.args.b.bits
+  divisor-2 = c.size-2.ensures ∙ rw (to_z-of_z (fb begin-2))
 
-returns : tie.Need-returns
+returns : tie.Need-returns-then-self-lt0
 unfolding div_f neg_f
 returns c =
     let s = c.before.before.before.before.before.before.before in
     let zero : of_z w32 s.args.b.bits ≡ 0 = search rules in
     c.neg.ensures ∙ ap wrap_f
-    (over-zero-below _ (rw (to_z-of_z (fs s)) at c.before.if2.true) ∙ over_zero_lem _ _ (fb s) zero)
+    (over-zero-below _ (rw (to_z-of_z (fs s)) at c.if-self-lt0.true) ∙ over_zero_lem _ _ (fb s) zero)
 
-returns-2 : tie.Need-returns-2
+returns-2 : tie.Need-returns-then-b-eq0
 unfolding div_f wrap32 signed low_bits
 returns-2 c =
     let s = c.before.before.before.before.before.before in
     let zero : of_z w32 s.args.b.bits ≡ 0 = search rules in
-    ap wrap_f (over-zero-above _ (rw (to_z-of_z (fs s)) at c.if2.false) ∙ over_zero_lem _ _ (fb s) zero)
+    ap wrap_f (over-zero-above _ (rw (to_z-of_z (fs s)) at c.if-self-lt0.false) ∙ over_zero_lem _ _ (fb s) zero)
 
 ratio-requires : tie.Need-ratio-requires
 ratio-requires c κs = rw (divisor c.before) (size_below (begin c.before).args.b.bits (below c.before))
 
-returns-3 : tie.Need-returns-3
+returns-3 : tie.Need-returns-then-b-lt0
 unfolding div_f
 returns-3 c =
     let size = c.before.before in
-    ap from_bits (read w32 c.ratio.result c.ratio.type-inv ∙ c.ratio.ensures ∙
+    ap from_bits (read w32 c.ratio.result c.ratio.type_inv ∙ c.ratio.ensures ∙
     rw (to_z-of_z (fs (begin size)), divisor size) (ap wrap32 (over_below _ _ (below size))))
 
 ratio-requires-2 : tie.Need-ratio-requires-2
@@ -71,15 +71,15 @@ ratio-requires-2 c κs =
     rw (divisor-2 c.before)
     (size_above (begin-2 c.before).args.b.bits (nonzero c.before) (above c.before))
 
-returns-4 : tie.Need-returns-4
+returns-4 : tie.Need-returns
 unfolding div_f
 returns-4 c =
     let size = c.before.before in
-    ap from_bits (read w32 c.ratio2.result c.ratio2.type-inv ∙ c.ratio2.ensures ∙
+    ap from_bits (read w32 c.ratio-2.result c.ratio-2.type_inv ∙ c.ratio-2.ensures ∙
     rw (to_z-of_z (fs (begin-2 size)), divisor-2 size) (ap wrap32 (over-above _ _ (nonzero size) (above size))))
 
-pub div-spec : {M : Type 1} → statement M
-div-spec =
+pub div_spec : {M : Type 1} → statement M
+div_spec =
     tie.close
     (tie.spec
     (λ c κs. search rules)

@@ -14,7 +14,7 @@ returns : tie.Need-returns
 unfolding fract_f
 returns c =
     ap from_bits (ap (to_z w32) (masked 16 16 refl _ (fs c.before.before)) ∙
-    to_z_pos w32 (omega (arith, low-lt 16 c.before.before.args.self.bits)))
+    to_z_pos w32 (omega (arith, low-lt 16 c.args.self.bits)))
 
-pub fract-spec : {M : Type 1} → statement M
-fract-spec = tie.close (tie.spec returns)
+pub fract_spec : {M : Type 1} → statement M
+fract_spec = tie.close (tie.spec returns)

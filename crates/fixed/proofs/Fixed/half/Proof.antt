@@ -9,7 +9,7 @@ module _ (s : tie.Start) where
   fs : SFits w32 s.args.self.bits
   fs = search rules
 
-div-t2 : tie.Need-nonzero-div-t2
+div-t2 : tie.Need-nonzero_div-result
 div-t2 c =
     let f = fs c.before.before in
     rw (to_z-of_z f) (search rules, half-fits _ f)

@@ -6,7 +6,7 @@ use Rattle.fixed.proofs.Fixed.midpoint.Tie as tie
 
 returns : tie.Need-returns
 unfolding midpoint_f
-returns c = rw (c.before.half.ensures, c.before.before.sub.ensures) at c.add.ensures
+returns c = rw (c.half.ensures, c.sub.ensures) at c.add.ensures
 
-pub midpoint-spec : {M : Type 1} → statement M
-midpoint-spec = tie.close (tie.spec (λ c κs. search rules) (λ c κs. search rules) (λ c κs. search rules) returns)
+pub midpoint_spec : {M : Type 1} → statement M
+midpoint_spec = tie.close (tie.spec (λ c κs. search rules) (λ c κs. search rules) (λ c κs. search rules) returns)

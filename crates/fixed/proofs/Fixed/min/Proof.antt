@@ -4,13 +4,13 @@ use Rattle.fixed.specs.Fixed.{min_f}
 use Rattle.fixed.proofs.Fixed.min.Statement.{statement}
 use Rattle.fixed.proofs.Fixed.min.Tie as tie
 
-returns : tie.Need-returns
+returns : tie.Need-returns-then-at_most
 unfolding min_f
-returns c = rw (sym c.before.at_most.ensures, c.if1.true)
+returns c = rw (sym c.at_most.ensures, c.if-at_most.true)
 
-returns-2 : tie.Need-returns-2
+returns-2 : tie.Need-returns
 unfolding min_f
-returns-2 c = rw (sym c.before.at_most.ensures, c.if1.false)
+returns-2 c = rw (sym c.at_most.ensures, c.if-at_most.false)
 
-pub min-spec : {M : Type 1} → statement M
-min-spec = tie.close (tie.spec (λ c κs. search rules) returns returns-2)
+pub min_spec : {M : Type 1} → statement M
+min_spec = tie.close (tie.spec (λ c κs. search rules) returns returns-2)

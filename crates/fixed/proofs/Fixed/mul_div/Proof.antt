@@ -17,7 +17,7 @@ module _ (s : tie.Start) where
   fc : SFits w32 s.args.c.bits
   fc = search rules
 
-divisor : (c : tie.After-size) → c.size.result ≡ nat_abs c.before.before.args.c.bits
+divisor : (c : tie.After-size) → c.size.result ≡ nat_abs c.args.c.bits
 divisor c = c.size.ensures ∙ rw (to_z-of_z (fc c.before.before))
 
 ratio-requires : tie.Need-ratio-requires
@@ -29,8 +29,8 @@ returns : tie.Need-returns
 unfolding mul_div_f
 returns c =
     let s = c.before.before.before.before.before in
-    ap from_bits (read w32 c.ratio.result c.ratio.type-inv ∙ c.ratio.ensures ∙
+    ap from_bits (read w32 c.ratio.result c.ratio.type_inv ∙ c.ratio.ensures ∙
     simp (to_z-of_z (fs s), to_z-of_z (fb s), divisor c.before.before.before))
 
-pub mul-div-spec : {M : Type 1} → statement M
-mul-div-spec = tie.close (tie.spec (λ c κs. search rules) ratio-requires returns)
+pub mul_div_spec : {M : Type 1} → statement M
+mul_div_spec = tie.close (tie.spec (λ c κs. search rules) ratio-requires returns)

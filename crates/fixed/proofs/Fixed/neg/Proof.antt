@@ -7,7 +7,7 @@ use Rattle.fixed.proofs.Fixed.neg.Tie as tie
 
 returns : tie.Need-returns
 unfolding neg_f sub_f
-returns c = c.sub.ensures ∙ ap wrap_f (+ℤ_idl (neg_ℤ c.before.args.self.bits))
+returns c = c.sub.ensures ∙ ap wrap_f (+ℤ_idl (neg_ℤ c.args.self.bits))
 
-pub neg-spec : {M : Type 1} → statement M
-neg-spec = tie.close (tie.spec (λ c κs. search rules) returns)
+pub neg_spec : {M : Type 1} → statement M
+neg_spec = tie.close (tie.spec (λ c κs. search rules) returns)

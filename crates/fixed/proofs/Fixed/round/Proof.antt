@@ -8,8 +8,8 @@ use Rattle.fixed.proofs.Fixed.round.Tie as tie
 returns : tie.Need-returns
 unfolding round_f
 returns c =
-    let f : SFits w32 c.before.before.add.result.bits = search rules in
-    ap from_bits (cleared 15 16 refl _ f ∙ rw c.before.before.add.ensures)
+    let f : SFits w32 c.add-raised.result.bits = search rules in
+    ap from_bits (cleared 15 16 refl _ f ∙ rw c.add-raised.ensures)
 
-pub round-spec : {M : Type 1} → statement M
-round-spec = tie.close (tie.spec (λ c κs. search rules) returns)
+pub round_spec : {M : Type 1} → statement M
+round_spec = tie.close (tie.spec (λ c κs. search rules) returns)

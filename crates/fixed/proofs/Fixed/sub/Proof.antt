@@ -20,10 +20,10 @@ returns c =
     let w = c.before in
     let b = w.before.before.before in
     let s = b.before.before in
-    let e = simp (w.before.bits-of2.ensures, b.bits_of.ensures, to_z-of_z (fs s), to_z-of_z (fb s)) at
-    w.wrapping-sub-u32.ensures in
-    ap from_bits (read w32 c.signed.result c.signed.type-inv ∙ c.signed.ensures ∙
-    ap signed (low-sub _ _ _ (fs s) (fb s) (omega (arith, w.wrapping-sub-u32.type-inv)) e))
+    let e = simp (w.bits_of-2.ensures, b.bits_of.ensures, to_z-of_z (fs s), to_z-of_z (fb s)) at
+    w.wrapping_sub_u32-difference.ensures in
+    ap from_bits (read w32 c.signed.result c.signed.type_inv ∙ c.signed.ensures ∙
+    ap signed (low-sub _ _ _ (fs s) (fb s) (omega (arith, w.wrapping_sub_u32-difference.type_inv)) e))
 
 pub sub_spec : {M : Type 1} → statement M
 sub_spec =

@@ -13,5 +13,5 @@ returns : tie.Need-returns
 unfolding trunc_f
 returns c = ap from_bits (cleared 21 10 refl _ (fs c.before.before))
 
-pub trunc-spec : {M : Type 1} → statement M
-trunc-spec = tie.close (tie.spec returns)
+pub trunc_spec : {M : Type 1} → statement M
+trunc_spec = tie.close (tie.spec returns)

@@ -7,29 +7,29 @@ use Rattle.hintmap.proofs.insert.insert_edges.Tie as tie
 
 put-requires : tie.Need-put-requires
 put-requires c κs =
-    let o = c.before.before.before.before.before in
-    let t = o.before.before.before in (
+    let o = c in
+    let t = o in (
       t.requires.whole,
       entered-fits _ _ _ t.requires t.args.e
-          (λ s initial. sym c.before.before.before.at.given.1 ∙ o.decide.ensures s initial),
+          (λ s initial. sym c.in-Enters.is ∙ o.decide.ensures s initial),
     )
 
-returns : tie.Need-returns
+returns : tie.Need-returns-in-Enters
 returns c =
-    let o = c.before.before.before.before.before.before in
-    let t = o.before.before.before in
+    let o = c in
+    let t = o in
     entered-is _ _ _ t.requires t.args.e _ _ _
-    (λ s initial. sym c.before.before.before.before.at.given.1 ∙ o.decide.ensures s initial)
+    (λ s initial. sym c.in-Enters.is ∙ o.decide.ensures s initial)
     c.put.ensures
 
-returns-2 : tie.Need-returns-2
+returns-2 : tie.Need-returns-in-Dropped
 returns-2 c =
-    let o = c.before.before in
-    let t = o.before.before.before in
-    dropped-is _ _ _ t.requires t.args.e (λ s initial. sym c.enum_told.given.1 ∙ o.decide.ensures s initial)
+    let o = c in
+    let t = o in
+    dropped-is _ _ _ t.requires t.args.e (λ s initial. sym c.in-Dropped.is ∙ o.decide.ensures s initial)
 
-pub insert-edges-spec : {M : Type 1} → statement M
-insert-edges-spec =
+pub insert_edges_spec : {M : Type 1} → statement M
+insert_edges_spec =
     tie.close
     (tie.spec (λ c κs. (search rules, search rules)) (λ c. search rules) put-requires (λ c. search rules) returns
     returns-2)

@@ -12,43 +12,43 @@ use Rattle.hintmap.proofs.Found.{places}
 use Rattle.hintmap.proofs.insert.place_of.Statement.{statement}
 use Rattle.hintmap.proofs.insert.place_of.Tie as tie
 
-abbrev invariant-loop : tie.invariant-loop
+abbrev invariant-loop : tie.invariant-loop-at
 invariant-loop lines len height at₀ at = (at ≤ len) × (at < len → less_f (height_in lines at) height ≡ false)
 
-abbrev decreases-loop : tie.decreases-loop
+abbrev decreases-loop : tie.decreases-loop-at
 decreases-loop lines len height at₀ at = at
 
 -- the test of the edge before is of its height
 asked : (c : tie.After-less invariant-loop decreases-loop) → let l = c.before.before.before in
-    c.less.result ≡ less_f (height_in l.before.args.lines.now (l.loop.at - 1)) l.before.args.height
+    c.less.result ≡ less_f (height_in l.args.lines.now (l.loop-at.at - 1)) l.args.height
 asked c =
-    c.less.ensures ∙ ap (λ (x : Fixed). less_f x c.before.before.before.before.args.height)
-    c.before.height-at.ensures
+    c.less.ensures ∙ ap (λ (x : Fixed). less_f x c.args.height)
+    c.height_at.ensures
 
-returns : tie.Need-returns invariant-loop decreases-loop
+returns : tie.Need-returns-then-less invariant-loop decreases-loop
 returns c =
     let l = c.before.before.before.before in
-    let a = l.before.args in (
-      l.loop.invariant.0,
-      places a.lines.now a.len a.height l.before.requires.0 l.loop.at l.loop.invariant.0
-          l.before.requires.1 (λ _. sym (asked c.before) ∙ c.if1.true) l.loop.invariant.1,
+    let a = l.args in (
+      l.loop-at.invariant.0,
+      places a.lines.now a.len a.height l.requires.0 l.loop-at.at l.loop-at.invariant.0
+          l.requires.1 (λ _. sym (asked c.before) ∙ c.if-less.true) l.loop-at.invariant.1,
     )
 
-loop-again : tie.Need-loop-preserved invariant-loop decreases-loop
-loop-again c = (omega arith, λ _. sym (asked c.before) ∙ c.if1.false)
+loop-again : tie.Need-loop-at-preserved invariant-loop decreases-loop
+loop-again c = (omega arith, λ _. sym (asked c.before) ∙ c.if-less.false)
 
-returns-2 : tie.Need-returns-2 invariant-loop decreases-loop
+returns-2 : tie.Need-returns invariant-loop decreases-loop
 returns-2 c =
     let l = c.before in
-    let a = l.before.args in
-    let z : l.loop.at ≡ 0 = omega arith in (
+    let a = l.args in
+    let z : l.loop-at.at ≡ 0 = omega arith in (
       omega arith,
-      places a.lines.now a.len a.height l.before.requires.0 0 (omega arith) l.before.requires.1
-          (λ o. absurd (omega arith)) (rw z at l.loop.invariant.1),
+      places a.lines.now a.len a.height l.requires.0 0 (omega arith) l.requires.1
+          (λ o. absurd (omega arith)) (rw z at l.loop-at.invariant.1),
     )
 
-pub place-of-spec : {M : Type 1} → statement M
-place-of-spec =
+pub place_of_spec : {M : Type 1} → statement M
+place_of_spec =
     tie.close
     (tie.spec invariant-loop decreases-loop (λ c. (omega arith, λ l. absurd (omega arith))) (λ c. search rules) (λ c κs. search rules)
     (λ c κs. search rules) returns (λ c. search rules) (λ c. omega arith) loop-again returns-2)

@@ -24,28 +24,28 @@ module _ (c : tie.Start) where
   end-held : SFits w32 c.args.end.x.bits × SFits w32 c.args.end.y.bits
   end-held = search rules
 
-slice-set-of-out : tie.Need-slice-set-of-out
+slice-set-of-out : tie.Need-slice_set_of-out
 slice-set-of-out c = search rules
 
-slice-set-from-x1 : tie.Need-slice-set-from-x1
-slice-set-from-x1 c = simp length-set (omega (arith, c.before.before.before.before.before.before.requires))
+slice-set-from-x1 : tie.Need-bounds-out-1
+slice-set-from-x1 c = simp length-set (omega (arith, c.requires))
 
-slice-set-from-y1 : tie.Need-slice-set-from-y1
-slice-set-from-y1 c = simp length-set (omega (arith, c.before.before.before.before.before.before.requires))
+slice-set-from-y1 : tie.Need-bounds-out-2
+slice-set-from-y1 c = simp length-set (omega (arith, c.requires))
 
-slice-set-from-x2 : tie.Need-slice-set-from-x2
-slice-set-from-x2 c = simp length-set (omega (arith, c.before.before.before.before.before.before.requires))
+slice-set-from-x2 : tie.Need-bounds-out-3
+slice-set-from-x2 c = simp length-set (omega (arith, c.requires))
 
-slice-set-from-y2 : tie.Need-slice-set-from-y2
-slice-set-from-y2 c = simp length-set (omega (arith, c.before.before.before.before.before.before.requires))
+slice-set-from-y2 : tie.Need-bounds-out-4
+slice-set-from-y2 c = simp length-set (omega (arith, c.requires))
 
-slice-set-from-x : tie.Need-slice-set-from-x
-slice-set-from-x c = simp length-set (omega (arith, c.before.before.before.before.before.before.requires))
+slice-set-from-x : tie.Need-bounds-out-5
+slice-set-from-x c = simp length-set (omega (arith, c.requires))
 
-slice-set-from-y : tie.Need-slice-set-from-y
-slice-set-from-y c = simp length-set (omega (arith, c.before.before.before.before.before.before.requires))
+slice-set-from-y : tie.Need-bounds-out-6
+slice-set-from-y c = simp length-set (omega (arith, c.requires))
 
-same_length : tie.Need-same-length
+same_length : tie.Need-shape_of-out
 same_length c = simp length-set
 
 returns : tie.Need-returns
@@ -59,8 +59,8 @@ returns c =
     rw (to_z-of_z p.0, to_z-of_z p.1, to_z-of_z q.0, to_z-of_z q.1, to_z-of_z e.0, to_z-of_z e.1)
     (sets-eq (pos 3 ∷ point_words a.first ++ point_words a.second ++ point_words a.end) a.out.now 0 s.requires)
 
-pub write-curve-spec : {M : Type 1} → statement M
-write-curve-spec =
+pub write_curve_spec : {M : Type 1} → statement M
+write_curve_spec =
     tie.close
     (tie.spec
     slice-set-of-out

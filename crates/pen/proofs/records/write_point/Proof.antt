@@ -12,16 +12,16 @@ use Rattle.pen.specs.Strokes.{point_words}
 use Rattle.pen.proofs.records.write_point.Statement.{statement}
 use Rattle.pen.proofs.records.write_point.Tie as tie
 
-slice-set-from-kind : tie.Need-slice-set-from-kind
+slice-set-from-kind : tie.Need-bounds-out-0
 slice-set-from-kind c = search rules
 
-slice-set-from-x : tie.Need-slice-set-from-x
-slice-set-from-x c = simp length-set (omega (arith, c.before.before.requires))
+slice-set-from-x : tie.Need-bounds-out-1
+slice-set-from-x c = simp length-set (omega (arith, c.requires))
 
-slice-set-from-y : tie.Need-slice-set-from-y
+slice-set-from-y : tie.Need-bounds-out-2
 slice-set-from-y c = search rules
 
-same_length : tie.Need-same-length
+same_length : tie.Need-shape_of-out
 same_length c = search rules
 
 returns : tie.Need-returns
@@ -34,6 +34,6 @@ returns c =
     let y : SFits w32 a.p.y.bits = search rules in
     rw (to_z-of_z k, to_z-of_z x, to_z-of_z y) (sets-eq (a.kind ∷ point_words a.p) a.out.now 0 s.requires)
 
-pub write-point-spec : {M : Type 1} → statement M
-write-point-spec =
+pub write_point_spec : {M : Type 1} → statement M
+write_point_spec =
     tie.close (tie.spec slice-set-from-kind slice-set-from-x slice-set-from-y same_length returns)

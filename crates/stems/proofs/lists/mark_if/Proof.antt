@@ -2,11 +2,11 @@
 use Rattle.stems.proofs.lists.mark_if.Statement.{statement}
 use Rattle.stems.proofs.lists.mark_if.Tie as tie
 
-returns : tie.Need-returns
-returns c = rw c.if1.true
+returns : tie.Need-returns-then-is
+returns c = rw c.if-is.true
 
-returns-2 : tie.Need-returns-2
-returns-2 c = rw c.if1.false
+returns-2 : tie.Need-returns
+returns-2 c = rw c.if-is.false
 
-pub mark-if-spec : {M : Type 1} → statement M
-mark-if-spec = tie.close (tie.spec returns returns-2)
+pub mark_if_spec : {M : Type 1} → statement M
+mark_if_spec = tie.close (tie.spec returns returns-2)

@@ -5,14 +5,14 @@ use Rattle.stems.proofs.Masks.{active-holds}
 use Rattle.stems.proofs.mask.clear_active.Statement.{statement}
 use Rattle.stems.proofs.mask.clear_active.Tie as tie
 
-sub-bytes : tie.Need-overflow-sub-bytes
-sub-bytes c = rw c.msb-mask.ensures (active-holds (of_bytes _) _ c.before.before.requires.1)
+sub-bytes : tie.Need-overflow_sub-bytes
+sub-bytes c = rw c.msb_mask.ensures (active-holds (of_bytes _) _ c.requires.1)
 
 returns : tie.Need-returns
 unfolding cleared
-returns c = rw (c.msb-mask.ensures, c.before.before.requires.1)
+returns c = rw (c.msb_mask.ensures, c.requires.1)
 
-pub clear-active-spec : {M : Type 1} → statement M
-clear-active-spec =
+pub clear_active_spec : {M : Type 1} → statement M
+clear_active_spec =
     tie.close
     (tie.spec (λ c. search rules) (λ c κs. search rules) sub-bytes (λ c. search rules) returns)

@@ -7,11 +7,11 @@ use Rattle.stems.proofs.FirstStem.{first-leading}
 use Rattle.stems.proofs.mask.first_set.Statement.{statement}
 use Rattle.stems.proofs.mask.first_set.Tie as tie
 
-cast-result : tie.Need-overflow-cast-result
+cast-result : tie.Need-overflow_cast-result
 cast-result c = omega (arith, leading_le 8 c.args.byte)
 
 returns : tie.Need-returns
 returns c = first-leading c.args.byte c.ranges.byte.fits
 
-pub first-set-spec : {M : Type 1} → statement M
-first-set-spec = tie.close (tie.spec cast-result returns)
+pub first_set_spec : {M : Type 1} → statement M
+first_set_spec = tie.close (tie.spec cast-result returns)

@@ -8,7 +8,7 @@ returns : tie.Need-returns
 unfolding is_active
 returns c = search rules
 
-pub is-active-spec : {M : Type 1} → statement M
-is-active-spec =
+pub is_active_spec : {M : Type 1} → statement M
+is_active_spec =
     tie.close
     (tie.spec (λ c. search rules) (λ c. search rules) (λ c. search rules) (λ c. search rules) returns)

@@ -9,15 +9,15 @@ use Rattle.stems.proofs.Masks.{passes}
 use Rattle.stems.proofs.mask.msb_mask.Statement.{statement}
 use Rattle.stems.proofs.mask.msb_mask.Tie as tie
 
-cast-result : tie.Need-overflow-cast-result
+cast-result : tie.Need-overflow_cast-result
 cast-result c = search rules
 
-shr-result : tie.Need-overflow-shr-result
+shr-result : tie.Need-overflow_shr-result
 shr-result c = search rules
 
 returns : tie.Need-returns
 returns c =
     eqb-true _ _ (passes (λ (k : ℕ). eqb (128 / 2 ^ k) (2 ^ (7 - k))) 8 refl (c.args.bit % 8) (omega arith))
 
-pub msb-mask-spec : {M : Type 1} → statement M
-msb-mask-spec = tie.close (tie.spec cast-result shr-result returns)
+pub msb_mask_spec : {M : Type 1} → statement M
+msb_mask_spec = tie.close (tie.spec cast-result shr-result returns)

@@ -13,69 +13,69 @@ use Rattle.stems.proofs.FirstStem.{search-on, search-ends, found-on}
 use Rattle.stems.proofs.mask.take_first.Statement.{statement}
 use Rattle.stems.proofs.mask.take_first.Tie as tie
 
-abbrev invariant-loop : tie.invariant-loop
+abbrev invariant-loop : tie.invariant-loop-k
 invariant-loop bytes₀ k₀ bytes k =
     (bytes ≡ bytes₀) × ((k ≤ 12) × (first_active (of_bytes bytes) ≡ first_from (of_bytes bytes) (8 * k) (96 - 8 * k)))
 
-abbrev decreases-loop : tie.decreases-loop
+abbrev decreases-loop : tie.decreases-loop-k
 decreases-loop bytes₀ k₀ bytes k = 12 - k
 
-loop-holds : tie.Need-loop-init invariant-loop decreases-loop
+loop-holds : tie.Need-loop-k-init invariant-loop decreases-loop
 loop-holds c = (refl, (search rules, refl))
 
 -- ---- byte k
-module _ (c : tie.After-first-set invariant-loop decreases-loop) where
-  abbrev at : tie.At-loop invariant-loop decreases-loop
-  at = c.before.before.before
+module _ (c : tie.After-first_set-bit invariant-loop decreases-loop) where
+  abbrev at : tie.At-loop-k invariant-loop decreases-loop
+  at = c.before.before.before.before
 
   abbrev mask : HintMask
-  mask = of_bytes at.loop.bytes
+  mask = of_bytes at.loop-k.bytes
 
   abbrev k : ℕ
-  k = at.loop.k
+  k = at.loop-k.k
 
   abbrev bit : ℕ
-  bit = c.first-set.result
+  bit = c.first_set-bit.result
 
   on : bit < 8 → is_active mask (8 * k + bit) ≡ true
-  on h = found-on mask k c.first-set.ensures h
+  on h = found-on mask k c.first_set-bit.ensures h
 
   ends : bit < 8 → first_active mask ≡ 8 * k + bit
-  ends h = at.loop.inv.1.1 ∙ search-ends mask k c.first-set.ensures (search rules) h
+  ends h = at.loop-k.invariant.1.1 ∙ search-ends mask k c.first_set-bit.ensures (search rules) h
 
-clear-active-requires : tie.Need-clear-active-requires invariant-loop decreases-loop
+clear-active-requires : tie.Need-clear_active-requires invariant-loop decreases-loop
 clear-active-requires c κs =
-    let t = c.before in
-    (omega arith, on t.before t.if1.true)
+    let t = c in
+    (omega arith, on t.before.before t.if-bit-lt8.true)
 
-returns : tie.Need-returns invariant-loop decreases-loop
+returns : tie.Need-returns-then-bit-lt8 invariant-loop decreases-loop
 unfolding without_first
 returns c =
-    let t = c.before.before in
-    let e = ends t.before t.if1.true in
-    let l : 8 * k t.before + bit t.before < 96 = omega arith in
-    rw (← (at t.before).loop.invariant.0) (record {
+    let t = c in
+    let e = ends t.before.before.before t.if-bit-lt8.true in
+    let l : 8 * k t.before.before.before + bit t.before.before.before < 96 = omega arith in
+    rw (← (at t.before.before.before).loop-k.invariant.0) (record {
       stem = sym e;
-      mask = rw (e, lt-ltb _ _ l) c.clear-active.ensures;
+      mask = rw (e, lt-ltb _ _ l) c.clear_active.ensures;
     })
 
-loop-again : tie.Need-loop-preserved invariant-loop decreases-loop
+loop-again : tie.Need-loop-k-preserved invariant-loop decreases-loop
 loop-again c =
-    let r = c.before in (
-      (at r).loop.invariant.0,
+    let r = c in (
+      (at r.before).loop-k.invariant.0,
       (
         omega arith,
-        (at r).loop.invariant.1.1 ∙ search-on (mask r) (k r) r.first-set.ensures (search rules) c.if1.false,
+        (at r.before).loop-k.invariant.1.1 ∙ search-on (mask r.before) (k r.before) r.first_set-bit.ensures (search rules) c.if-bit-lt8.false,
       ),
     )
 
-returns-2 : tie.Need-returns-2 invariant-loop decreases-loop
+returns-2 : tie.Need-returns invariant-loop decreases-loop
 unfolding first_from without_first
 returns-2 c =
-    let at = c.before in
-    let end : at.loop.k ≡ 12 = omega arith in
-    let none : first_active (of_bytes at.loop.bytes) ≡ 96 = at.loop.invariant.1.1 ∙ rw end in
-    rw (← at.loop.invariant.0) (record { stem = sym none; mask = rw none })
+    let at = c in
+    let end : at.loop-k.k ≡ 12 = omega arith in
+    let none : first_active (of_bytes at.loop-k.bytes) ≡ 96 = at.loop-k.invariant.1.1 ∙ rw end in
+    rw (← at.loop-k.invariant.0) (record { stem = sym none; mask = rw none })
 
 pub take_first_spec : {M : Type 1} → statement M
 take_first_spec =

@@ -6,11 +6,11 @@ use Rattle.words.proofs.read.natural.Tie as tie
 raw-requires : tie.Need-raw-requires
 raw-requires c κs = search rules
 
-cast-result : tie.Need-overflow-cast-result
+cast-result : tie.Need-overflow_cast-result
 cast-result c = search rules
 
 returns : tie.Need-returns
 returns c = search rules
 
-pub natural-spec : {M : Type 1} → statement M
-natural-spec = tie.close (tie.spec raw-requires cast-result returns)
+pub natural_spec : {M : Type 1} → statement M
+natural_spec = tie.close (tie.spec raw-requires cast-result returns)

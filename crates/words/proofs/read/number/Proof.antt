@@ -8,13 +8,13 @@ use Rattle.fixed.specs.Fixed.{from_bits}
 use Rattle.words.proofs.read.number.Statement.{statement}
 use Rattle.words.proofs.read.number.Tie as tie
 
-word-requires : tie.Need-word-requires
+word-requires : tie.Need-word-bits-requires
 word-requires c κs = search rules
 
 returns : tie.Need-returns
 returns c =
-    let fits : SFits w32 c.word.result = search rules in
-    ap from_bits (to_z-of_z fits ∙ c.word.ensures)
+    let fits : SFits w32 c.word-bits.result = search rules in
+    ap from_bits (to_z-of_z fits ∙ c.word-bits.ensures)
 
-pub number-spec : {M : Type 1} → statement M
-number-spec = tie.close (tie.spec word-requires returns)
+pub number_spec : {M : Type 1} → statement M
+number_spec = tie.close (tie.spec word-requires returns)

@@ -17,7 +17,7 @@ signed-requires c κs = search rules
 returns : tie.Need-returns
 returns c =
     let fits : SFits w32 c.signed.result = search rules in
-    to_z-of_z fits ∙ c.signed.ensures ∙ ap signed c.before.raw.ensures
+    to_z-of_z fits ∙ c.signed.ensures ∙ ap signed c.raw.ensures
 
-pub word-spec : {M : Type 1} → statement M
-word-spec = tie.close (tie.spec raw-requires signed-requires returns)
+pub word_spec : {M : Type 1} → statement M
+word_spec = tie.close (tie.spec raw-requires signed-requires returns)

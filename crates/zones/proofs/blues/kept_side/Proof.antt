@@ -4,14 +4,14 @@ use borrow.Author.Tests.{eq-eqb, ne_eqb}
 use Rattle.zones.proofs.blues.kept_side.Statement.{statement}
 use Rattle.zones.proofs.blues.kept_side.Tie as tie
 
-returns : tie.Need-returns
+returns : tie.Need-returns-then-other
 returns c = search rules
 
-returns-2 : tie.Need-returns-2
-returns-2 c = rw (c.before.if1.false, eq-eqb _ _ c.if2.true)
+returns-2 : tie.Need-returns-then-n-eq0
+returns-2 c = rw (c.if-other.false, eq-eqb _ _ c.if-n-eq0.true)
 
-returns-3 : tie.Need-returns-3
-returns-3 c = rw (c.before.if1.false, ne_eqb _ _ c.if2.false)
+returns-3 : tie.Need-returns
+returns-3 c = rw (c.if-other.false, ne_eqb _ _ c.if-n-eq0.false)
 
-pub kept-side-spec : {M : Type 1} → statement M
-kept-side-spec = tie.close (tie.spec returns returns-2 returns-3)
+pub kept_side_spec : {M : Type 1} → statement M
+kept_side_spec = tie.close (tie.spec returns returns-2 returns-3)

@@ -4,34 +4,34 @@ use borrow.Author.Rules.{rules}
 use Rattle.zones.proofs.numbers.put_zone.Statement.{statement}
 use Rattle.zones.proofs.numbers.put_zone.Tie as tie
 
-mark-if-requires : tie.Need-mark-if-requires
+mark-if-requires : tie.Need-mark_if-requires
 mark-if-requires c κs = search rules
 
-put-number-requires : tie.Need-put-number-requires
+put-number-requires : tie.Need-put_number-requires
 put-number-requires c κs = search rules
 
-add-put-number : tie.Need-overflow-add-put-number
+add-put-number : tie.Need-overflow_add-i
 add-put-number c = search rules
 
-put-number-requires-2 : tie.Need-put-number-requires-2
+put-number-requires-2 : tie.Need-put_number-requires-2
 put-number-requires-2 c κs = search rules
 
-add-put-number-2 : tie.Need-overflow-add-put-number-2
+add-put-number-2 : tie.Need-overflow_add-i-2
 add-put-number-2 c = search rules
 
-put-number-requires-3 : tie.Need-put-number-requires-3
+put-number-requires-3 : tie.Need-put_number-requires-3
 put-number-requires-3 c κs = search rules
 
-add-put-number-3 : tie.Need-overflow-add-put-number-3
+add-put-number-3 : tie.Need-overflow_add-i-3
 add-put-number-3 c = search rules
 
-put-number-requires-4 : tie.Need-put-number-requires-4
+put-number-requires-4 : tie.Need-put_number-requires-4
 put-number-requires-4 c κs = search rules
 
-add-put-number-4 : tie.Need-overflow-add-put-number-4
+add-put-number-4 : tie.Need-overflow_add-i-4
 add-put-number-4 c = search rules
 
-put-number-requires-5 : tie.Need-put-number-requires-5
+put-number-requires-5 : tie.Need-put_number-requires-5
 put-number-requires-5 c κs = search rules
 
 returns : tie.Need-returns
@@ -42,16 +42,16 @@ returns c =
     let f = e.before.before in
     let g = f.before.before in
     rw (
-      c.put-number5.ensures,
-      d.put-number4.ensures,
-      e.put-number3.ensures,
-      f.put-number2.ensures,
-      g.put-number.ensures,
-      g.before.mark-if.ensures,
+      c.put_number-5.ensures,
+      d.put_number-4.ensures,
+      e.put_number-3.ensures,
+      f.put_number-2.ensures,
+      g.put_number.ensures,
+      g.mark_if.ensures,
     )
 
-pub put-zone-spec : {M : Type 1} → statement M
-put-zone-spec =
+pub put_zone_spec : {M : Type 1} → statement M
+put_zone_spec =
     tie.close
     (tie.spec
     mark-if-requires

@@ -12,11 +12,11 @@ use Rattle.zones.proofs.state.boost_at.Tie as tie
 less-requires : tie.Need-less-requires
 less-requires c κs = search rules
 
-mul-div-requires : tie.Need-mul-div-requires
+mul-div-requires : tie.Need-mul_div-requires
 mul-div-requires c κs =
     let s = c.before.before in
     let p = s.requires in
-    let t : less_f s.args.scale s.args.blue-scale ≡ true = sym c.before.less.ensures ∙ c.if1.true in
+    let t : less_f s.args.scale s.args.blue_scale ≡ true = sym c.less.ensures ∙ c.if-less.true in
     omega heights
 
 sub-requires : tie.Need-sub-requires
@@ -25,17 +25,17 @@ sub-requires c κs = search rules
 min-requires : tie.Need-min-requires
 min-requires c κs = search rules
 
-returns : tie.Need-returns
+returns : tie.Need-returns-then-less
 unfolding boost_of
 returns c =
     let t = c.before.before.before in
-    rw (sym t.before.less.ensures, t.if1.true)
-    (c.min.ensures ∙ rw (c.before.sub.ensures, c.before.before.mul-div.ensures))
+    rw (sym t.less.ensures, t.if-less.true)
+    (c.min.ensures ∙ rw (c.sub.ensures, c.mul_div.ensures))
 
-returns-2 : tie.Need-returns-2
+returns-2 : tie.Need-returns
 unfolding boost_of
-returns-2 c = rw (sym c.before.less.ensures, c.if1.false)
+returns-2 c = rw (sym c.less.ensures, c.if-less.false)
 
-pub boost-at-spec : {M : Type 1} → statement M
-boost-at-spec =
+pub boost_at_spec : {M : Type 1} → statement M
+boost_at_spec =
     tie.close (tie.spec less-requires mul-div-requires sub-requires min-requires returns returns-2)

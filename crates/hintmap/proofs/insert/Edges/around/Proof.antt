@@ -3,25 +3,25 @@ use borrow.Author.Rules.{rules}
 use Rattle.hintmap.proofs.insert.Edges.around.Statement.{statement}
 use Rattle.hintmap.proofs.insert.Edges.around.Tie as tie
 
-returns : tie.Need-returns
-returns c = rw c.before.before.self.given.1 (rw c.at-device.ensures)
+returns : tie.Need-returns-in-One
+returns c = rw c.in-One.is (rw c.at_device.ensures)
 
-returns-2 : tie.Need-returns-2
+returns-2 : tie.Need-returns-in-Two
 returns-2 c =
     let w = c.before.before.before.before in
-    rw c.before.before.before.before.before.before.before.before.self2.given.1
+    rw c.in-Two.is
     (rw (
-      c.at-device3.ensures,
-      c.before.add.ensures,
-      c.before.before.at-device2.ensures,
-      c.before.before.before.sub2.ensures,
-      w.mul.ensures,
-      w.before.half.ensures,
-      w.before.before.sub.ensures,
+      c.at_device-in-Two-2.ensures,
+      c.add.ensures,
+      c.at_device-in-Two.ensures,
+      c.sub-in-Two.ensures,
+      w.mul-w.ensures,
+      w.half.ensures,
+      w.sub.ensures,
     ))
 
-pub around-spec : {M : Type 1} → statement M
-around-spec =
+pub around_spec : {M : Type 1} → statement M
+around_spec =
     tie.close
     (tie.spec (λ c. search rules) (λ c κs. search rules) (λ c. search rules) (λ c κs. search rules)
     (λ c κs. search rules) (λ c κs. search rules) (λ c κs. search rules) (λ c κs. search rules) (λ c κs. search rules)

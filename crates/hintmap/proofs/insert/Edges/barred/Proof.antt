@@ -6,44 +6,44 @@ use Rattle.hintmap.specs.Insert.{bars}
 use Rattle.hintmap.proofs.insert.Edges.barred.Statement.{statement}
 use Rattle.hintmap.proofs.insert.Edges.barred.Tie as tie
 
-returns : tie.Need-returns
+returns : tie.Need-returns-then-same
 unfolding bars
-returns c = rw (c.before.before.before.self.given.1, sym c.before.same.ensures, c.if1.true)
+returns c = rw (c.in-One.is, sym c.same.ensures, c.if-same.true)
 
-returns-2 : tie.Need-returns-2
+returns-2 : tie.Need-returns-then-same-2
 unfolding bars
-returns-2 c = rw (c.before.before.before.self2.given.1, sym c.before.same2.ensures, c.if2.true)
+returns-2 c = rw (c.in-Two.is, sym c.same-in-Two.ensures, c.if-same-2.true)
 
-returns-3 : tie.Need-returns-3
+returns-3 : tie.Need-returns-then-is_pair_top
 unfolding bars
 returns-3 c =
     rw (
-      c.before.before.before.before.before.self2.given.1,
-      sym c.before.before.before.same2.ensures,
-      c.before.before.if2.false,
-      sym c.before.is-pair-top2.ensures,
-      c.if3.true,
+      c.in-Two.is,
+      sym c.same-in-Two.ensures,
+      c.if-same-2.false,
+      sym c.is_pair_top-in-Two.ensures,
+      c.if-is_pair_top.true,
     )
 
-returns-4 : tie.Need-returns-4
+returns-4 : tie.Need-returns-else-same
 unfolding bars
 returns-4 c =
-    rw (c.before.before.before.before.self.given.1, sym c.before.before.same.ensures, c.before.if1.false)
-    c.is-pair-top.ensures
+    rw (c.in-One.is, sym c.same.ensures, c.if-same.false)
+    c.is_pair_top.ensures
 
-returns-5 : tie.Need-returns-5
+returns-5 : tie.Need-returns-else-is_pair_top
 unfolding bars
 returns-5 c =
     rw (
-      c.before.before.before.before.before.before.self2.given.1,
-      sym c.before.before.before.before.same2.ensures,
-      c.before.before.before.if2.false,
-      sym c.before.before.is-pair-top2.ensures,
-      c.before.if3.false,
+      c.in-Two.is,
+      sym c.same-in-Two.ensures,
+      c.if-same-2.false,
+      sym c.is_pair_top-in-Two.ensures,
+      c.if-is_pair_top.false,
     ) c.at_most.ensures
 
-pub barred-spec : {M : Type 1} → statement M
-barred-spec =
+pub barred_spec : {M : Type 1} → statement M
+barred_spec =
     tie.close
     (tie.spec (λ c. search rules) (λ c κs. search rules) returns (λ c κs. search rules) (λ c. search rules)
     (λ c κs. search rules) returns-2 (λ c κs. search rules) returns-3 (λ c κs. search rules) returns-4 returns-5)

@@ -4,17 +4,17 @@ use Rattle.hintmap.specs.Insert.{chosen}
 use Rattle.hintmap.proofs.insert.Edges.choose.Statement.{statement}
 use Rattle.hintmap.proofs.insert.Edges.choose.Tie as tie
 
-returns : tie.Need-returns
+returns : tie.Need-returns-in-BottomGhost
 unfolding chosen
-returns c = rw c.enum_told.given.1
+returns c = rw c.in-BottomGhost.is
 
-returns-2 : tie.Need-returns-2
+returns-2 : tie.Need-returns-in-TopGhost
 unfolding chosen
-returns-2 c = rw c.enum-told2.given.1
+returns-2 c = rw c.in-TopGhost.is
 
-returns-3 : tie.Need-returns-3
+returns-3 : tie.Need-returns-in-Pair
 unfolding chosen
-returns-3 c = rw c.enum-told3.given.1
+returns-3 c = rw c.in-Pair.is
 
 pub choose_spec : {M : Type 1} → statement M
 choose_spec = tie.close

@@ -5,11 +5,11 @@ use Rattle.hintmap.specs.Insert.{first_edge}
 use Rattle.hintmap.proofs.insert.Edges.first.Statement.{statement}
 use Rattle.hintmap.proofs.insert.Edges.first.Tie as tie
 
-returns : tie.Need-returns
+returns : tie.Need-returns-in-One
 returns c = search rules
 
-returns-2 : tie.Need-returns-2
-returns-2 c = sym (ap first_edge c.before.self2.given.1)
+returns-2 : tie.Need-returns-in-Two
+returns-2 c = sym (ap first_edge c.in-Two.is)
 
 pub first_spec : {M : Type 1} → statement M
 first_spec = tie.close

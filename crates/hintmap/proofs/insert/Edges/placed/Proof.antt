@@ -15,8 +15,8 @@ use Rattle.hintmap.proofs.insert.Edges.placed.Statement.{statement}
 use Rattle.hintmap.proofs.insert.Edges.placed.Tie as tie
 
 -- the test is of the first edge
-locked : (c : tie.After-is-locked) → c.is-locked.result ≡ (first_edge c.before.before.args.self).locked
-locked c = c.is-locked.ensures ∙ ap (λ (e : Hint). e.locked) c.before.first.ensures
+locked : (c : tie.After-is_locked) → c.is_locked.result ≡ (first_edge c.args.self).locked
+locked c = c.is_locked.ensures ∙ ap (λ (e : Hint). e.locked) c.first-f.ensures
 
 module _ (s : tie.Start) (ts : List ℕ) where
   abbrev es : List Hint
@@ -25,23 +25,23 @@ module _ (s : tie.Start) (ts : List ℕ) where
   abbrev by : Bool → Edges
   by b = placed_by (not b) es s.args.base s.args.scale s.args.self
 
-returns : tie.Need-returns
+returns : tie.Need-returns-then-is_locked
 returns c =
     λ ts. let s = c.before.before.before in
-    sym (ap (by s ts) (sym (locked c.before) ∙ c.if1.true))
+    sym (ap (by s ts) (sym (locked c.before) ∙ c.if-is_locked.true))
 
-returns-2 : tie.Need-returns-2
+returns-2 : tie.Need-returns
 unfolding again
 returns-2 c =
     λ ts. let l = c.before.before.before in
     let s = l.before.before.before in
     c.around.ensures ∙
     ap (λ (d : Fixed). around d s.args.scale s.args.self)
-    (c.before.transform.ensures ts ∙ ap (map_of (es s ts) s.args.base) c.before.before.middle.ensures) ∙
-    sym (ap (by s ts) (sym (locked l.before) ∙ l.if1.false))
+    (c.transform.ensures ts ∙ ap (map_of (es s ts) s.args.base) c.middle.ensures) ∙
+    sym (ap (by s ts) (sym (locked l.before) ∙ l.if-is_locked.false))
 
-pub placed-spec : {M : Type 1} → statement M
-placed-spec =
+pub placed_spec : {M : Type 1} → statement M
+placed_spec =
     tie.close
     (tie.spec (λ c κs. search rules) (λ c κs. search rules) returns (λ c κs. search rules)
     (λ c κs. search (rules, unknown)) (λ c κs. search rules) returns-2)

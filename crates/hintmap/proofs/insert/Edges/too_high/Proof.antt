@@ -6,25 +6,25 @@ use Rattle.hintmap.specs.Insert.{too_high}
 use Rattle.hintmap.proofs.insert.Edges.too_high.Statement.{statement}
 use Rattle.hintmap.proofs.insert.Edges.too_high.Tie as tie
 
-returns : tie.Need-returns
+returns : tie.Need-returns-then-less
 unfolding too_high
-returns c = rw (c.before.before.before.self2.given.1, sym c.before.less2.ensures, c.if1.true)
+returns c = rw (c.in-Two.is, sym c.less-in-Two.ensures, c.if-less.true)
 
-returns-2 : tie.Need-returns-2
+returns-2 : tie.Need-returns-in-One
 unfolding too_high
-returns-2 c = rw c.before.before.self.given.1 c.less.ensures
+returns-2 c = rw c.in-One.is c.less.ensures
 
-returns-3 : tie.Need-returns-3
+returns-3 : tie.Need-returns-else-less
 unfolding too_high
 returns-3 c =
     rw (
-      c.before.before.before.before.self2.given.1,
-      sym c.before.before.less2.ensures,
-      c.before.if1.false,
-    ) c.less3.ensures
+      c.in-Two.is,
+      sym c.less-in-Two.ensures,
+      c.if-less.false,
+    ) c.less-in-Two-2.ensures
 
-pub too-high-spec : {M : Type 1} → statement M
-too-high-spec =
+pub too_high_spec : {M : Type 1} → statement M
+too_high_spec =
     tie.close
     (tie.spec (λ c. search rules) (λ c κs. search rules) (λ c. search rules) (λ c κs. search rules) returns
     (λ c κs. search rules) returns-2 returns-3)

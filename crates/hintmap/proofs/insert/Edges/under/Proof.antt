@@ -4,7 +4,7 @@ use Rattle.hintmap.proofs.insert.Edges.under.Statement.{statement}
 use Rattle.hintmap.proofs.insert.Edges.under.Tie as tie
 
 returns : tie.Need-returns
-returns c = rw c.before.first.ensures at c.less.ensures
+returns c = rw c.first-f.ensures at c.less.ensures
 
 pub under_spec : {M : Type 1} → statement M
 under_spec = tie.close

@@ -12,29 +12,29 @@ use Rattle.hintmap.proofs.Near.{held-long}
 use Rattle.hintmap.proofs.map.HintMap.list.Statement.{statement}
 use Rattle.hintmap.proofs.map.HintMap.list.Tie as tie
 
-abbrev invariant-loop : tie.invariant-loop
+abbrev invariant-loop : tie.invariant-loop-i
 invariant-loop lines₀ tags₀ self i₀ lines tags i =
     (i ≤ 96) × (Whole lines tags × ((j : ℕ) → j < i → get_or (edges_in lines tags) j no_hint ≡ get_or self.edges j no_hint))
 
-abbrev decreases-loop : tie.decreases-loop
+abbrev decreases-loop : tie.decreases-loop-i
 decreases-loop lines₀ tags₀ self i₀ lines tags i = 96 - i
 
-loop-again : tie.Need-loop-preserved invariant-loop decreases-loop
+loop-again : tie.Need-loop-i-preserved invariant-loop decreases-loop
 loop-again c =
     let l = c.before.before.before.before.before in
-    let i = l.loop.i in
+    let i = l.loop-i.i in
     let p : i < 96 = omega arith in
-    let w = l.loop.invariant.1.0 in
-    let m = c.put-edge.ensures in
-    let es = edges_in l.loop.lines l.loop.tags in
+    let w = l.loop-i.invariant.1.0 in
+    let m = c.put_edge.ensures in
+    let es = edges_in l.loop-i.lines l.loop-i.tags in
     let e = put_is _ _ w i p _ m in
-    let k : i < length es = omega (arith, edges-long l.loop.lines l.loop.tags) in (
+    let k : i < length es = omega (arith, edges-long l.loop-i.lines l.loop-i.tags) in (
       omega arith,
       (
         put_whole _ _ w i p _ m,
         before-next i
             (λ j q. ap (λ x. get_or x j no_hint) e ∙ get_or-set_other es i j _ no_hint (λ z. omega arith) ∙
-            l.loop.invariant.1.1 j q)
+            l.loop-i.invariant.1.1 j q)
             (ap (λ x. get_or x i no_hint) e ∙ get_or-set_same es i _ no_hint k),
       ),
     )
@@ -42,15 +42,15 @@ loop-again c =
 returns : tie.Need-returns invariant-loop decreases-loop
 returns c =
     let l = c.before in
-    let a = edges-long l.loop.lines l.loop.tags in
-    let b = held-long l.before.args.t1 l.before.well-formed.0.1.1.0.1.0.1 in
+    let a = edges-long l.loop-i.lines l.loop-i.tags in
+    let b = held-long l.args.self l.well_formed.0.1.1.0.1.0.1 in
     record {
-      whole = l.loop.invariant.1.0;
-      edges = ext_get_or no_hint _ _ (a ∙ sym b) (λ j q. l.loop.invariant.1.1 j (omega (arith, a)));
+      whole = l.loop-i.invariant.1.0;
+      edges = ext_get_or no_hint _ _ (a ∙ sym b) (λ j q. l.loop-i.invariant.1.1 j (omega (arith, a)));
     }
 
-pub list-spec : {M : Type 1} → statement M
-list-spec =
+pub list_spec : {M : Type 1} → statement M
+list_spec =
     tie.close
     (tie.spec invariant-loop decreases-loop (λ c. (omega arith, (c.requires, λ j q. absurd (omega arith)))) (λ c. omega arith)
     (λ c. omega arith) (λ c κs. omega arith) (λ c. omega arith) (λ c. omega arith) loop-again returns)

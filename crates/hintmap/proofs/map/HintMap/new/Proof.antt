@@ -4,7 +4,7 @@ use Rattle.hintmap.proofs.map.HintMap.new.Statement.{statement}
 use Rattle.hintmap.proofs.map.HintMap.new.Tie as tie
 
 returns : tie.Need-returns
-returns c = rw c.none.ensures
+returns c = rw c.none-none.ensures
 
 pub new_spec : {M : Type 1} → statement M
 new_spec = tie.close

@@ -14,59 +14,59 @@ use Rattle.pen.proofs.strokes.Pen.close_len.Tie as tie
 
 -- where nothing waits, or what waits does not lead to the start, a close writes what a flush does,
 -- and a close
-all : (c : tie.At-match2-branch) →
-    flush_words c.before.before.before.before.args.self ++ pos 4 ∷ [] ≡
-    closing_words c.before.before.before.before.args.self
+all : (c : tie.Joined-waiting) →
+    flush_words c.args.self ++ pos 4 ∷ [] ≡
+    closing_words c.args.self
 unfolding closing_words flush_words
 all c =
-    rw c.before.before.start.given.1
-    (⊎_elim (λ w. rw (w.1.given.1, sym w.3.ensures, w.4.left)) (λ w. rw w.1.given.1) c.match2.branch)
+    rw c.in-At.is
+    (⊎_elim (λ w. rw (w.1.given.1, sym w.3.ensures, w.4.left)) (λ w. rw w.1.given.1) c.match-waiting.branch)
 
-enum-known-start : tie.Need-enum-known-start
+enum-known-start : tie.Need-enum_known-start
 enum-known-start c = search rules
 
-enum_told : tie.Need-enum-told
+enum_told : tie.Need-enum_told-1
 enum_told c = search rules
 
-returns : tie.Need-returns
+returns : tie.Need-returns-in_default
 unfolding closing_words
-returns c = rw c.enum_told.given.1
+returns c = rw c.in_default.is
 
-enum-known-waiting : tie.Need-enum-known-waiting
+enum-known-waiting : tie.Need-enum_known-waiting
 enum-known-waiting c = search rules
 
 same-requires : tie.Need-same-requires
 same-requires c κs = search rules
 
-returns-2 : tie.Need-returns-2
+returns-2 : tie.Need-returns-then-same
 unfolding closing_words
 returns-2 c =
-    let same = c.before in
-    let line = same.before.before in
+    let same = c in
+    let line = same in
     rw (
-      line.before.before.before.start.given.1,
-      line.waiting.given.1,
+      line.in-At.is,
+      line.in-Line.is,
       sym same.same.ensures,
-      c.if1.true,
+      c.if-same.true,
     )
 
-enum-told-2 : tie.Need-enum-told-2
+enum-told-2 : tie.Need-enum_told-in_default-waiting
 enum-told-2 c = search rules
 
-flush-len-requires : tie.Need-flush-len-requires
+flush-len-requires : tie.Need-flush_len-requires
 flush-len-requires c κs = search rules
 
-add-result : tie.Need-overflow-add-result
+add-result : tie.Need-overflow_add-result
 add-result c =
-    omega (arith, c.flush-len.ensures, flushing-short c.before.before.before.before.before.args.self)
+    omega (arith, c.flush_len.ensures, flushing-short c.args.self)
 
-returns-3 : tie.Need-returns-3
+returns-3 : tie.Need-returns
 returns-3 c =
-    let pen = c.before.before.before.before.before.args.self in
-    omega (arith, c.flush-len.ensures, length-append (flush_words pen) (pos 4 ∷ []), ap length (all c.before))
+    let pen = c.args.self in
+    omega (arith, c.flush_len.ensures, length-append (flush_words pen) (pos 4 ∷ []), ap length (all c.before))
 
-pub close-len-spec : {M : Type 1} → statement M
-close-len-spec =
+pub close_len_spec : {M : Type 1} → statement M
+close_len_spec =
     tie.close
     (tie.spec
     enum-known-start

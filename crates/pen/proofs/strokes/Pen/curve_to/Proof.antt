@@ -17,56 +17,56 @@ abbrev asked : tie.Start → Stroke
 asked s = curve_of s.args.self s.args.first s.args.second s.args.end
 
 -- the words are counted first
-count : (c : tie.After-flush-len) → c.flush-len.result + 7 ≡ length (asked c.before).words
+count : (c : tie.After-flush_len-flushed) → c.flush_len-flushed.result + 7 ≡ length (asked c.before).words
 unfolding curve_of
-count c = simp length-append (omega (arith, c.flush-len.ensures))
+count c = simp length-append (omega (arith, c.flush_len-flushed.ensures))
 
-flush-len-requires : tie.Need-flush-len-requires
+flush-len-requires : tie.Need-flush_len-flushed-requires
 flush-len-requires c κs = search rules
 
-add-count : tie.Need-overflow-add-count
-add-count c = omega (arith, c.flush-len.ensures, flushing-short c.before.args.self)
+add-count : tie.Need-overflow_add-count
+add-count c = omega (arith, c.flush_len-flushed.ensures, flushing-short c.args.self)
 
 refused-requires : tie.Need-refused-requires
 refused-requires c κs = search rules
 
-returns : tie.Need-returns
+returns : tie.Need-returns-then-out-count
 returns c = no_room c.refused.ensures (omega (arith, count c.before.before))
 
 flush-requires : tie.Need-flush-requires
 flush-requires c κs = search rules
 
-mul-write-curve : tie.Need-overflow-mul-write-curve
+mul-write-curve : tie.Need-offset_bounds-out-flushed
 mul-write-curve c = search rules
 
-sub-write-curve : tie.Need-overflow-sub-write-curve
+sub-write-curve : tie.Need-slice_bounds-write_curve-count
 sub-write-curve c = search rules
 
-part-write-curve-start : tie.Need-slice-bounds-write-curve-start
+part-write-curve-start : tie.Need-slice_bounds-write_curve-start
 part-write-curve-start c = search rules
 
-part-write-curve-end : tie.Need-slice-bounds-write-curve-end
+part-write-curve-end : tie.Need-slice_bounds-write_curve-end
 part-write-curve-end c = search rules
 
-write-curve-requires : tie.Need-write-curve-requires
+write-curve-requires : tie.Need-write_curve-requires
 write-curve-requires c κs = search rules
 
-same_length : tie.Need-same-length
+same_length : tie.Need-shape_of-out
 same_length c = search rules
 
-returns-2 : tie.Need-returns-2
+returns-2 : tie.Need-returns
 unfolding curve_of
 returns-2 c =
     let f = c.before.before.before.before in
     let s = f.before.before.before in
-    let a = s.before.args in
+    let a = s.args in
     let vs = pos 3 ∷ point_words a.first ++ point_words a.second ++ point_words a.end in
     drew (count s) (omega arith)
-    (behind (flush_words a.self) vs a.out.now s.flush-len.ensures f.flush.ensures
-    c.before.write-curve.ensures)
+    (behind (flush_words a.self) vs a.out.now s.flush_len-flushed.ensures f.flush.ensures
+    c.write_curve.ensures)
 
-pub curve-to-spec : {M : Type 1} → statement M
-curve-to-spec =
+pub curve_to_spec : {M : Type 1} → statement M
+curve_to_spec =
     tie.close
     (tie.spec
     flush-len-requires

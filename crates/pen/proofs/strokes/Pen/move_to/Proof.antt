@@ -17,53 +17,53 @@ abbrev asked : tie.Start → Stroke
 asked s = move_of s.args.self s.args.at s.args.device
 
 -- the words are counted first
-count : (c : tie.After-close-len) → c.close-len.result + 3 ≡ length (asked c.before).words
+count : (c : tie.After-close_len-closed) → c.close_len-closed.result + 3 ≡ length (asked c.before).words
 unfolding move_of
-count c = simp length-append (omega (arith, c.close-len.ensures))
+count c = simp length-append (omega (arith, c.close_len-closed.ensures))
 
-close-len-requires : tie.Need-close-len-requires
+close-len-requires : tie.Need-close_len-closed-requires
 close-len-requires c κs = search rules
 
-add-count : tie.Need-overflow-add-count
-add-count c = omega (arith, c.close-len.ensures, closing-short c.before.args.self)
+add-count : tie.Need-overflow_add-count
+add-count c = omega (arith, c.close_len-closed.ensures, closing-short c.args.self)
 
 refused-requires : tie.Need-refused-requires
 refused-requires c κs = search rules
 
-returns : tie.Need-returns
+returns : tie.Need-returns-then-out-count
 returns c = no_room c.refused.ensures (omega (arith, count c.before.before))
 
 close-requires : tie.Need-close-requires
 close-requires c κs = search rules
 
-mul-write-point : tie.Need-overflow-mul-write-point
+mul-write-point : tie.Need-offset_bounds-out-closed
 mul-write-point c = search rules
 
-sub-write-point : tie.Need-overflow-sub-write-point
+sub-write-point : tie.Need-slice_bounds-write_point-count
 sub-write-point c = search rules
 
-part-write-point-start : tie.Need-slice-bounds-write-point-start
+part-write-point-start : tie.Need-slice_bounds-write_point-start
 part-write-point-start c = search rules
 
-part-write-point-end : tie.Need-slice-bounds-write-point-end
+part-write-point-end : tie.Need-slice_bounds-write_point-end
 part-write-point-end c = search rules
 
-write-point-requires : tie.Need-write-point-requires
+write-point-requires : tie.Need-write_point-requires
 write-point-requires c κs = search rules
 
-same_length : tie.Need-same-length
+same_length : tie.Need-shape_of-out
 same_length c = search rules
 
-returns-2 : tie.Need-returns-2
+returns-2 : tie.Need-returns
 unfolding move_of
 returns-2 c =
     let f = c.before.before.before.before in
     let s = f.before.before.before in
-    let a = s.before.args in
+    let a = s.args in
     let vs = pos 1 ∷ point_words a.device in
     drew (count s) (omega arith)
-    (behind (closing_words a.self) vs a.out.now s.close-len.ensures f.close.ensures
-    c.before.write-point.ensures)
+    (behind (closing_words a.self) vs a.out.now s.close_len-closed.ensures f.close.ensures
+    c.write_point.ensures)
 
 pub move_to_spec : {M : Type 1} → statement M
 move_to_spec =

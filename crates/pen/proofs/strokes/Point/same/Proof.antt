@@ -7,14 +7,14 @@ use Rattle.pen.proofs.strokes.Point.same.Tie as tie
 same-requires : tie.Need-same-requires
 same-requires c κs = search rules
 
-same-requires-2 : tie.Need-same-requires-2
+same-requires-2 : tie.Need-same-requires-then-same
 same-requires-2 c κs = search rules
 
-returns : tie.Need-returns
-returns c = rw (sym c.before.before.same.ensures, c.before.if1.true) c.same2.ensures
+returns : tie.Need-returns-then-same
+returns c = rw (sym c.same.ensures, c.if-same.true) c.same-then-same.ensures
 
-returns-2 : tie.Need-returns-2
-returns-2 c = rw (sym c.before.same.ensures, c.if1.false)
+returns-2 : tie.Need-returns
+returns-2 c = rw (sym c.same.ensures, c.if-same.false)
 
 pub same_spec : {M : Type 1} → statement M
 same_spec = tie.close (tie.spec same-requires same-requires-2 returns returns-2)

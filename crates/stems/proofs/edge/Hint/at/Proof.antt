@@ -9,5 +9,5 @@ mul-requires c κs = search rules
 returns : tie.Need-returns
 returns c = rw (← c.mul.ensures)
 
-pub at-spec : {M : Type 1} → statement M
-at-spec = tie.close (tie.spec mul-requires returns)
+pub at_spec : {M : Type 1} → statement M
+at_spec = tie.close (tie.spec mul-requires returns)

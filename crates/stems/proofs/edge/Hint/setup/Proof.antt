@@ -28,56 +28,56 @@ module _ (st : StemHint) (i : ℕ) (s : Fixed) (b : Side) (h : Shape) (e : Hint)
 shape-requires : tie.Need-shape-requires
 shape-requires c κs = search rules
 
-edge-requires : tie.Need-edge-requires
+edge-requires : tie.Need-edge-edge-requires
 edge-requires c κs = search rules
 
-returns : tie.Need-returns
+returns : tie.Need-returns-then-not-stem
 returns c =
-    sym (by-use _ _ _ _ _ _ c.before.before.before.shape.ensures c.before.before.edge.ensures false
-    _ (not-true _ c.if1.true) refl)
+    sym (by-use _ _ _ _ _ _ c.shape.ensures c.edge-edge.ensures false
+    _ (not-true _ c.if-not-stem.true) refl)
 
-is-valid-requires : tie.Need-is-valid-requires
+is-valid-requires : tie.Need-is_valid-requires
 is-valid-requires c κs = search rules
 
-returns-2 : tie.Need-returns-2
+returns-2 : tie.Need-returns-then-not-is_valid
 returns-2 c =
-    sym (by-use _ _ _ _ _ _ c.before.before.before.before.before.shape.ensures
-    c.before.before.before.before.edge.ensures true false
-    (not-false _ c.before.before.if1.false)
-    (sym c.before.is-valid.ensures ∙ not-true _ c.if2.true))
+    sym (by-use _ _ _ _ _ _ c.shape.ensures
+    c.edge-edge.ensures true false
+    (not-false _ c.if-not-stem.false)
+    (sym c.is_valid.ensures ∙ c.if-not-is_valid.true))
 
-is-top-requires : tie.Need-is-top-requires
+is-top-requires : tie.Need-is_top-requires
 is-top-requires c κs = search rules
 
-abbrev start : tie.After-is-top → tie.Start
+abbrev start : tie.After-is_top → tie.Start
 start c = c.before.before.before.before.before.before.before
 
 -- what is asked for, where the stem is used and the edge is valid
-used : (c : tie.After-is-top) (t : Bool) → c.is-top.result ≡ t →
+used : (c : tie.After-is_top) (t : Bool) → c.is_top.result ≡ t →
     setup_of (start c).args.stem (start c).args.index (start c).args.scale (start c).args.side ≡
-    locked_at c.before.before.before.before.before.edge.result
+    locked_at c.edge-edge.result
     (cond t (start c).args.stem.ds_max (start c).args.stem.ds_min)
 used c t x =
-    by_side _ _ _ _ _ _ c.before.before.before.before.before.before.shape.ensures
-    c.before.before.before.before.before.edge.ensures t
-    (not-false _ c.before.before.before.if1.false)
-    (sym c.before.before.is-valid.ensures ∙ not-false _ c.before.if2.false)
-    (sym c.is-top.ensures ∙ x)
+    by_side _ _ _ _ _ _ c.shape.ensures
+    c.edge-edge.ensures t
+    (not-false _ c.if-not-stem.false)
+    (sym c.is_valid.ensures ∙ c.if-not-is_valid.false)
+    (sym c.is_top.ensures ∙ x)
 
-locked-at-requires : tie.Need-locked-at-requires
+locked-at-requires : tie.Need-locked_at-requires
 locked-at-requires c κs = search rules
 
-returns-3 : tie.Need-returns-3
-returns-3 c = c.locked-at.ensures ∙ sym (used c.before.before true c.before.if3.true)
+returns-3 : tie.Need-returns-then-is_top
+returns-3 c = c.locked_at.ensures ∙ sym (used c.before.before.before true c.if-is_top.true)
 
-locked-at-requires-2 : tie.Need-locked-at-requires-2
+locked-at-requires-2 : tie.Need-locked_at-requires-2
 locked-at-requires-2 c κs = search rules
 
-returns-4 : tie.Need-returns-4
-returns-4 c = c.locked-at2.ensures ∙ sym (used c.before.before false c.before.if3.false)
+returns-4 : tie.Need-returns
+returns-4 c = c.locked_at-2.ensures ∙ sym (used c.before.before.before false c.if-is_top.false)
 
-pub setup-spec : {M : Type 1} → statement M
-setup-spec =
+pub setup_spec : {M : Type 1} → statement M
+setup_spec =
     tie.close
     (tie.spec
     shape-requires

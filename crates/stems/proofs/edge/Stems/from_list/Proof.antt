@@ -13,28 +13,28 @@ use Rattle.stems.proofs.Places.{before-next, zero_stem, all-stems}
 use Rattle.stems.proofs.edge.Stems.from_list.Statement.{statement}
 use Rattle.stems.proofs.edge.Stems.from_list.Tie as tie
 
-abbrev invariant-loop : tie.invariant-loop
+abbrev invariant-loop : tie.invariant-loop-i
 invariant-loop stems count list₀ i₀ list i =
     (i ≤ 96) × ((length list ≡ 96) × ((j : ℕ) → j < i → get_or list j zero_stem ≡ stem_in stems j))
 
-abbrev decreases-loop : tie.decreases-loop
+abbrev decreases-loop : tie.decreases-loop-i
 decreases-loop stems count list₀ i₀ list i = 96 - i
 
-loop-holds : tie.Need-loop-init invariant-loop decreases-loop
-loop-holds c = (omega arith, (refl, before-next 0 (λ j q. absurd (omega arith)) c.stem-at.ensures))
+loop-holds : tie.Need-loop-i-init invariant-loop decreases-loop
+loop-holds c = (omega arith, (refl, before-next 0 (λ j q. absurd (omega arith)) c.stem_at-none.ensures))
 
-loop-again : tie.Need-loop-preserved invariant-loop decreases-loop
+loop-again : tie.Need-loop-i-preserved invariant-loop decreases-loop
 loop-again c =
     let l = c.before.before in
-    let i = l.loop.i in
-    let k : i < length l.loop.list = omega (arith, l.loop.invariant.1.0) in (
+    let i = l.loop-i.i in
+    let k : i < length l.loop-i.list = omega (arith, l.loop-i.invariant.1.0) in (
       omega arith,
       (
-        length-set l.loop.list i c.stem-at2.result ∙ l.loop.invariant.1.0,
+        length-set l.loop-i.list i c.stem_at.result ∙ l.loop-i.invariant.1.0,
         before-next i
-            (λ j q. get_or-set_other l.loop.list i j c.stem-at2.result zero_stem (λ z. omega arith) ∙
-            l.loop.invariant.1.1 j q)
-            (get_or-set_same l.loop.list i c.stem-at2.result zero_stem k ∙ c.stem-at2.ensures),
+            (λ j q. get_or-set_other l.loop-i.list i j c.stem_at.result zero_stem (λ z. omega arith) ∙
+            l.loop-i.invariant.1.1 j q)
+            (get_or-set_same l.loop-i.list i c.stem_at.result zero_stem k ∙ c.stem_at.ensures),
       ),
     )
 
@@ -42,13 +42,13 @@ returns : tie.Need-returns invariant-loop decreases-loop
 unfolding stems_in
 returns c =
     let l = c.before in
-    let a = l.before.before.args in
+    let a = l.args in
     ap (λ (xs : List StemHint). record { list = xs; count = a.count })
-    (all-stems a.stems.now a.count l.loop.list l.loop.invariant.1.0
-    (λ j q. l.loop.invariant.1.1 j (omega arith)))
+    (all-stems a.stems.now a.count l.loop-i.list l.loop-i.invariant.1.0
+    (λ j q. l.loop-i.invariant.1.1 j (omega arith)))
 
-pub from-list-spec : {M : Type 1} → statement M
-from-list-spec =
+pub from_list_spec : {M : Type 1} → statement M
+from_list_spec =
     tie.close
     (tie.spec invariant-loop decreases-loop (λ c κs. search rules) loop-holds (λ c κs. omega arith) (λ c. omega arith)
     (λ c. omega arith) (λ c. omega arith) (λ c. omega arith) loop-again returns)

@@ -12,28 +12,28 @@ use Rattle.stems.proofs.Places.{before-next, zero_stem, set_long, stem-here, ste
 use Rattle.stems.proofs.edge.Stems.list.Statement.{statement}
 use Rattle.stems.proofs.edge.Stems.list.Tie as tie
 
-abbrev invariant-loop : tie.invariant-loop
+abbrev invariant-loop : tie.invariant-loop-i
 invariant-loop stems₀ self i₀ stems i =
     (i ≤ 96) × ((length stems ≡ 480) × ((j : ℕ) → j < i → get_or self.list j zero_stem ≡ stem_in stems j))
 
-abbrev decreases-loop : tie.decreases-loop
+abbrev decreases-loop : tie.decreases-loop-i
 decreases-loop stems₀ self i₀ stems i = 96 - i
 
-loop-again : tie.Need-loop-preserved invariant-loop decreases-loop
+loop-again : tie.Need-loop-i-preserved invariant-loop decreases-loop
 loop-again c =
     let l = c.before.before.before.before in
-    let i = l.loop.i in
+    let i = l.loop-i.i in
     let p : i < 96 = omega arith in
-    let n = l.loop.invariant.1.0 in
-    let st = get_or l.before.args.t1.list i zero_stem in
-    let e = c.put-stem.ensures in (
+    let n = l.loop-i.invariant.1.0 in
+    let st = get_or l.args.self.list i zero_stem in
+    let e = c.put_stem.ensures in (
       omega arith,
       (
-        rw e (set_long l.loop.stems n i p st),
+        rw e (set_long l.loop-i.stems n i p st),
         before-next i
-            (λ j q. rw e (l.loop.invariant.1.1 j q ∙
-            sym (stem-there l.loop.stems n i p st j (omega arith) (λ z. omega arith))))
-            (rw e (sym (stem-here l.loop.stems n i p st))),
+            (λ j q. rw e (l.loop-i.invariant.1.1 j q ∙
+            sym (stem-there l.loop-i.stems n i p st j (omega arith) (λ z. omega arith))))
+            (rw e (sym (stem-here l.loop-i.stems n i p st))),
       ),
     )
 
@@ -41,17 +41,17 @@ returns : tie.Need-returns invariant-loop decreases-loop
 unfolding stems_in
 returns c =
     let l = c.before in
-    let long : length l.before.args.t1.list ≡ 96 = simp length-map at l.before.well-formed.0.1.1.0.1.0.1 in
+    let long : length l.args.self.list ≡ 96 = l.well_formed.0.1.1.0.1.0.1 in
     record {
-      long = l.loop.invariant.1.0;
+      long = l.loop-i.invariant.1.0;
       stems =
-          ap (λ (xs : List StemHint). record { list = xs; count = l.before.args.t1.count })
-          (sym (all-stems l.loop.stems l.before.args.t1.count l.before.args.t1.list long
-          (λ j q. l.loop.invariant.1.1 j (omega arith))));
+          ap (λ (xs : List StemHint). record { list = xs; count = l.args.self.count })
+          (sym (all-stems l.loop-i.stems l.args.self.count l.args.self.list long
+          (λ j q. l.loop-i.invariant.1.1 j (omega arith))));
     }
 
-pub list-spec : {M : Type 1} → statement M
-list-spec =
+pub list_spec : {M : Type 1} → statement M
+list_spec =
     tie.close
     (tie.spec invariant-loop decreases-loop (λ c. (omega arith, (c.requires, λ j q. absurd (omega arith)))) (λ c. omega arith)
     (λ c. omega arith) (λ c κs. omega arith) (λ c. omega arith) (λ c. omega arith) loop-again returns)

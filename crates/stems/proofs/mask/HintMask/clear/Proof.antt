@@ -10,20 +10,20 @@ use Rattle.stems.proofs.Masks.{active-inside}
 use Rattle.stems.proofs.mask.HintMask.clear.Statement.{statement}
 use Rattle.stems.proofs.mask.HintMask.clear.Tie as tie
 
-active : (c : tie.Else1) → is_active c.before.before.args.self c.before.before.args.bit ≡ true
-active c = sym c.before.get.ensures ∙ not-false _ c.if1.false
+active : (c : tie.Else-not-get) → is_active c.args.self c.args.bit ≡ true
+active c = sym c.get.ensures ∙ c.if-not-get.false
 
-returns : tie.Need-returns
+returns : tie.Need-returns-then-not-get
 unfolding cleared
-returns c = rw (sym c.before.get.ensures ∙ not-true _ c.if1.true)
+returns c = rw (sym c.get.ensures ∙ c.if-not-get.true)
 
-clear-active-requires : tie.Need-clear-active-requires
+clear-active-requires : tie.Need-clear_active-requires
 clear-active-requires c κs =
     let e = c.before.before in
-    let twelve : length e.before.before.args.self.bytes ≡ 12 = search rules in
+    let twelve : length e.args.self.bytes ≡ 12 = search rules in
     (omega (arith, active-inside _ _ (active e)), active e)
 
-returns-2 : tie.Need-returns-2
+returns-2 : tie.Need-returns
 returns-2 c = search rules
 
 pub clear_spec : {M : Type 1} → statement M

@@ -7,12 +7,12 @@ use Rattle.stems.proofs.Masks.{past_off}
 use Rattle.stems.proofs.mask.HintMask.get.Statement.{statement}
 use Rattle.stems.proofs.mask.HintMask.get.Tie as tie
 
-returns : tie.Need-returns
+returns : tie.Need-returns-then-bit-gt-LAST_HINT
 returns c =
-    let twelve : length c.before.args.self.bytes ≡ 12 = search rules in
+    let twelve : length c.args.self.bytes ≡ 12 = search rules in
     sym (past_off _ _ (omega arith))
 
-returns-2 : tie.Need-returns-2
+returns-2 : tie.Need-returns
 returns-2 c = search rules
 
 pub get_spec : {M : Type 1} → statement M

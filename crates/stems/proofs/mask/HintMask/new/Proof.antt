@@ -22,46 +22,46 @@ more p i h k =
     rw n (set_at (take i p) 0 (replicate (12 - (i + 1)) 0) (get_or p i 0) i l ∙
     sym (rw (add-one, take-suc p i 0, append_assoc)))
 
-abbrev invariant-loop : tie.invariant-loop
+abbrev invariant-loop : tie.invariant-loop-i
 invariant-loop bytes n copy₀ i₀ copy i = (copy ≡ take i bytes ++ replicate (12 - i) 0) × ((i ≤ n) × (n ≤ 12))
 
-abbrev decreases-loop : tie.decreases-loop
+abbrev decreases-loop : tie.decreases-loop-i
 decreases-loop bytes n copy₀ i₀ copy i = n - i
 
 all-requires : tie.Need-all-requires invariant-loop decreases-loop
 all-requires c κs = search rules
 
-returns : tie.Need-returns invariant-loop decreases-loop
+returns : tie.Need-returns-then-n-gt-HINT_MASK_SIZE invariant-loop decreases-loop
 unfolding mask_of
 returns c =
-    rw (lt-ltb 12 (length c.before.before.before.args.bytes.now) c.before.if1.true) c.all.ensures
+    rw (lt-ltb 12 (length c.args.bytes.now) c.if-n-gt-HINT_MASK_SIZE.true) c.all.ensures
 
-loop-holds : tie.Need-loop-init invariant-loop decreases-loop
+loop-holds : tie.Need-loop-i-init invariant-loop decreases-loop
 loop-holds c = (refl, (search rules, search rules))
 
-shared-slice-read-copy : tie.Need-shared-slice-read-copy invariant-loop decreases-loop
+shared-slice-read-copy : tie.Need-bounds-bytes-i invariant-loop decreases-loop
 shared-slice-read-copy c = search rules
 
-array-write-copy : tie.Need-array-write-copy invariant-loop decreases-loop
+array-write-copy : tie.Need-bounds-copy-i invariant-loop decreases-loop
 array-write-copy c = omega arith
 
-add-i : tie.Need-overflow-add-i invariant-loop decreases-loop
+add-i : tie.Need-overflow_step-i invariant-loop decreases-loop
 add-i c = search rules
 
-loop-less : tie.Need-loop-smaller invariant-loop decreases-loop
+loop-less : tie.Need-loop-i-smaller invariant-loop decreases-loop
 loop-less c = search rules
 
-loop-again : tie.Need-loop-preserved invariant-loop decreases-loop
+loop-again : tie.Need-loop-i-preserved invariant-loop decreases-loop
 loop-again c =
-    let at = c.before.before.loop in
-    let p = c.before.before.before.before.before.args.bytes.now in
+    let at = c.loop-i in
+    let p = c.args.bytes.now in
     (rw at.invariant.0 (more p at.i (omega arith) (omega arith)), (omega arith, omega arith))
 
-returns-2 : tie.Need-returns-2 invariant-loop decreases-loop
+returns-2 : tie.Need-returns invariant-loop decreases-loop
 unfolding mask_of
 returns-2 c =
-    let at = c.before.loop in
-    let p = c.before.before.before.before.args.bytes.now in
+    let at = c.loop-i in
+    let p = c.args.bytes.now in
     let n : at.i ≡ length p = omega arith in
     let l : length p ≤ 12 = omega arith in
     rw (at.invariant.0, n, le-ltb 12 (length p) l, take-length p)

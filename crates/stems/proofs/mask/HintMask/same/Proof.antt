@@ -21,57 +21,57 @@ more : (a b : List ℕ) (i : ℕ) → i < length a → i < length b →
 unfolding same_bytes
 more a b i h k = rw (add-one, drop-cons a i 0, drop-cons b i 0)
 
-abbrev invariant-loop : tie.invariant-loop
+abbrev invariant-loop : tie.invariant-loop-i
 invariant-loop self other i₀ i = (i ≤ 12) × (same_mask self other ≡ same_bytes (drop i self.bytes) (drop i other.bytes))
 
-abbrev decreases-loop : tie.decreases-loop
+abbrev decreases-loop : tie.decreases-loop-i
 decreases-loop self other i₀ i = 12 - i
 
-twelve : (s : tie.Start invariant-loop decreases-loop) → (length s.args.t1.bytes ≡ 12) × (length s.args.t2.bytes ≡ 12)
+twelve : (s : tie.Start invariant-loop decreases-loop) → (length s.args.self.bytes ≡ 12) × (length s.args.other.bytes ≡ 12)
 twelve s = (search rules, search rules)
 
-next : (c : tie.In-loop invariant-loop decreases-loop) →
-    let s = c.before.before.args in
-    let i = c.before.loop.i in
-    same_mask s.t1 s.t2 ≡ eqb (get_or s.t1.bytes i 0) (get_or s.t2.bytes i 0) &&
-    same_bytes (drop (i + 1) s.t1.bytes) (drop (i + 1) s.t2.bytes)
+next : (c : tie.In-loop-i invariant-loop decreases-loop) →
+    let s = c.args in
+    let i = c.loop-i.i in
+    same_mask s.self s.other ≡ eqb (get_or s.self.bytes i 0) (get_or s.other.bytes i 0) &&
+    same_bytes (drop (i + 1) s.self.bytes) (drop (i + 1) s.other.bytes)
 next c =
-    let at = c.before in
-    let n = twelve at.before in
-    at.loop.invariant.1 ∙ more at.before.args.t1.bytes at.before.args.t2.bytes at.loop.i (omega arith)
+    let at = c in
+    let n = twelve at.before.before in
+    at.loop-i.invariant.1 ∙ more at.args.self.bytes at.args.other.bytes at.loop-i.i (omega arith)
     (omega arith)
 
-loop-holds : tie.Need-loop-init invariant-loop decreases-loop
+loop-holds : tie.Need-loop-i-init invariant-loop decreases-loop
 loop-holds c = (search rules, refl)
 
-element-copy-out-if1 : tie.Need-element-copy-out-if1 invariant-loop decreases-loop
+element-copy-out-if1 : tie.Need-bounds-self-i invariant-loop decreases-loop
 element-copy-out-if1 c = search rules
 
-element-copy-out-if1-2 : tie.Need-element-copy-out-if1-2 invariant-loop decreases-loop
+element-copy-out-if1-2 : tie.Need-bounds-other-i invariant-loop decreases-loop
 element-copy-out-if1-2 c = search rules
 
-returns : tie.Need-returns invariant-loop decreases-loop
-returns c = sym (next c.before.before.before ∙ rw (ne_eqb _ _ c.if1.true))
+returns : tie.Need-returns-then-self-i invariant-loop decreases-loop
+returns c = sym (next c.before.before.before ∙ rw (ne_eqb _ _ c.if-self-i.true))
 
-add-i : tie.Need-overflow-add-i invariant-loop decreases-loop
+add-i : tie.Need-overflow_step-i invariant-loop decreases-loop
 add-i c = search rules
 
-loop-less : tie.Need-loop-smaller invariant-loop decreases-loop
+loop-less : tie.Need-loop-i-smaller invariant-loop decreases-loop
 loop-less c = search rules
 
-loop-again : tie.Need-loop-preserved invariant-loop decreases-loop
-loop-again c = (omega arith, next c.before.before.before ∙ rw (eq-eqb _ _ c.if1.false))
+loop-again : tie.Need-loop-i-preserved invariant-loop decreases-loop
+loop-again c = (omega arith, next c.before.before.before ∙ rw (eq-eqb _ _ c.if-self-i.false))
 
-returns-2 : tie.Need-returns-2 invariant-loop decreases-loop
+returns-2 : tie.Need-returns invariant-loop decreases-loop
 unfolding same_bytes
 returns-2 c =
-    let at = c.before in
-    let n = twelve at.before in
-    let end : at.loop.i ≡ 12 = omega arith in
-    sym (at.loop.invariant.1 ∙ rw (
+    let at = c in
+    let n = twelve at.before.before in
+    let end : at.loop-i.i ≡ 12 = omega arith in
+    sym (at.loop-i.invariant.1 ∙ rw (
       end,
-      drop_of_length-le at.before.args.t1.bytes {i = 12} (omega arith),
-      drop_of_length-le at.before.args.t2.bytes {i = 12} (omega arith),
+      drop_of_length-le at.args.self.bytes {i = 12} (omega arith),
+      drop_of_length-le at.args.other.bytes {i = 12} (omega arith),
     ))
 
 pub same_spec : {M : Type 1} → statement M

@@ -8,16 +8,16 @@ use Rattle.zones.proofs.blues.Blue.wholly_below.Tie as tie
 less-requires : tie.Need-less-requires
 less-requires c κs = search rules
 
-returns : tie.Need-returns
-returns c = rw (sym c.before.less.ensures, not-true c.before.less.result c.if1.true)
+returns : tie.Need-returns-then-not-less
+returns c = rw (sym c.less.ensures, c.if-not-less.true)
 
 less-requires-2 : tie.Need-less-requires-2
 less-requires-2 c κs = search rules
 
-returns-2 : tie.Need-returns-2
+returns-2 : tie.Need-returns
 returns-2 c =
-    rw (sym c.before.before.less.ensures, not-false c.before.before.less.result c.before.if1.false)
-    c.less2.ensures
+    rw (sym c.less.ensures, c.if-not-less.false)
+    c.less-2.ensures
 
-pub wholly-below-spec : {M : Type 1} → statement M
-wholly-below-spec = tie.close (tie.spec less-requires returns less-requires-2 returns-2)
+pub wholly_below_spec : {M : Type 1} → statement M
+wholly_below_spec = tie.close (tie.spec less-requires returns less-requires-2 returns-2)

@@ -5,37 +5,37 @@ use borrow.Author.Rules.{rules}
 use Rattle.zones.proofs.blues.BlueZone.within.Statement.{statement}
 use Rattle.zones.proofs.blues.BlueZone.within.Tie as tie
 
-sub-requires : tie.Need-sub-requires
+sub-requires : tie.Need-sub-low-requires
 sub-requires c κs = search rules
 
-at-most-requires : tie.Need-at-most-requires
+at-most-requires : tie.Need-at_most-requires
 at-most-requires c κs = search rules
 
-returns : tie.Need-returns
+returns : tie.Need-returns-then-not-at_most
 returns c =
     rw (
-      sym c.before.before.sub.ensures,
-      sym c.before.at_most.ensures,
-      not-true c.before.at_most.result c.if1.true,
+      sym c.sub-low.ensures,
+      sym c.at_most.ensures,
+      c.if-not-at_most.true,
     )
 
 add-requires : tie.Need-add-requires
 add-requires c κs = search rules
 
-at-most-requires-2 : tie.Need-at-most-requires-2
+at-most-requires-2 : tie.Need-at_most-requires-2
 at-most-requires-2 c κs = search rules
 
-returns-2 : tie.Need-returns-2
+returns-2 : tie.Need-returns
 returns-2 c =
     let e = c.before.before in
     simp (
-      sym e.before.before.sub.ensures,
-      sym e.before.at_most.ensures,
-      not-false e.before.at_most.result e.if1.false,
-      sym c.before.add.ensures,
-    ) c.at-most2.ensures
+      sym e.sub-low.ensures,
+      sym e.at_most.ensures,
+      e.if-not-at_most.false,
+      sym c.add.ensures,
+    ) c.at_most-2.ensures
 
-pub within-spec : {M : Type 1} → statement M
-within-spec =
+pub within_spec : {M : Type 1} → statement M
+within_spec =
     tie.close
     (tie.spec sub-requires at-most-requires returns add-requires at-most-requires-2 returns-2)

@@ -16,16 +16,16 @@ use Rattle.zones.proofs.state.Gauge.capture_by.Statement.{statement}
 use Rattle.zones.proofs.state.Gauge.capture_by.Tie as tie
 
 -- the holder is that of the state that the numbers and the list are of
-held-is : (c : tie.After-holder) → let a = c.before.before.args in
+held-is : (c : tie.After-holder-held) → let a = c.args in
     let st = state_in a.self a.zones.now in
-    capture_of st a.bottom a.top ≡ captured_by c.holder.result st a.bottom a.top
+    capture_of st a.bottom a.top ≡ captured_by c.holder-held.result st a.bottom a.top
 unfolding capture_of
 held-is c =
-    let a = c.before.before.args in
+    let a = c.args in
     let zs = zones_in a.zones.now in
     let first : List BlueZone → Held = first_holding a.self.blue_fuzz a.bottom a.top in
     ap (λ (h : Held). captured_by h (state_in a.self a.zones.now) a.bottom a.top)
-    (sym (c.holder.ensures ∙ ap first (ap (λ (n : ℕ). take n zs) c.before.least.ensures ∙
+    (sym (c.holder-held.ensures ∙ ap first (ap (λ (n : ℕ). take n zs) c.least-count.ensures ∙
     take-least a.self.zone_count 12 zs (zones-long a.zones.now))))
 
 -- a move goes by the zone that holds, and by no other
@@ -34,24 +34,24 @@ move-is : (g : Gauge) (zs : List BlueZone) (z : BlueZone) (b t : Hint) →
 unfolding capture_move bottom_goal top_goal
 move-is g zs z b t = refl
 
-returns : tie.Need-returns
+returns : tie.Need-returns-in-By
 returns c =
-    let k = c.before.before.before in
-    let a = k.before.before.before.before.before.args in
-    let moved = c.before.before.move-by in
-    sym (held-is k.before.before.before ∙
+    let k = c in
+    let a = k.args in
+    let moved = c.move_by-by in
+    sym (held-is k.before.before.before.before ∙
     rw (
-      k.before.held.given.1,
-      c.before.lift.ensures,
-      c.lift2.ensures,
+      k.in-By.is,
+      c.lift.ensures,
+      c.lift-in-By.ensures,
       moved.ensures ∙ move-is a.self (zones_in a.zones.now) _ a.bottom a.top,
     ))
 
-returns-2 : tie.Need-returns-2
-returns-2 c = sym (held-is c.before.before ∙ rw c.enum_told.given.1)
+returns-2 : tie.Need-returns-in-Free
+returns-2 c = sym (held-is c.before ∙ rw c.in-Free.is)
 
-pub capture-by-spec : {M : Type 1} → statement M
-capture-by-spec =
+pub capture_by_spec : {M : Type 1} → statement M
+capture_by_spec =
     tie.close
     (tie.spec (λ c κs. search rules) (λ c κs. search rules) (λ c. search rules) (λ c κs. search rules)
     (λ c κs. search rules) (λ c κs. search rules) (λ c. search rules) returns returns-2)

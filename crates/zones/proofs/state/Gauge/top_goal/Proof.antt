@@ -5,17 +5,17 @@ use borrow.Author.Rules.{rules}
 use Rattle.zones.proofs.state.Gauge.top_goal.Statement.{statement}
 use Rattle.zones.proofs.state.Gauge.top_goal.Tie as tie
 
-returns : tie.Need-returns
+returns : tie.Need-returns-then-self
 unfolding top_goal
-returns c = rw c.if1.true
+returns c = rw c.if-self.true
 
-round-requires : tie.Need-round-requires
+round-requires : tie.Need-round-rounded-requires
 round-requires c κs = search rules
 
-sub-requires : tie.Need-sub-requires
+sub-requires : tie.Need-sub-height-requires
 sub-requires c κs = search rules
 
-at-most-requires : tie.Need-at-most-requires
+at-most-requires : tie.Need-at_most-requires
 at-most-requires c κs = search rules
 
 add-requires : tie.Need-add-requires
@@ -24,29 +24,29 @@ add-requires c κs = search rules
 max-requires : tie.Need-max-requires
 max-requires c κs = search rules
 
-returns-2 : tie.Need-returns-2
+returns-2 : tie.Need-returns-then-at_most
 unfolding top_goal
 returns-2 c =
     let a = c.before.before.before in
     rw (
-      a.before.before.before.if1.false,
-      sym a.before.sub.ensures,
+      a.if-self.false,
+      sym a.sub-height.ensures,
       sym a.at_most.ensures,
-      c.before.before.if2.true,
+      c.if-at_most.true,
       c.max.ensures,
-      c.before.add.ensures,
-      a.before.before.round.ensures,
+      c.add.ensures,
+      a.round-rounded.ensures,
     )
 
-returns-3 : tie.Need-returns-3
+returns-3 : tie.Need-returns
 unfolding top_goal
 returns-3 c =
     let a = c.before in
-    rw (a.before.before.before.if1.false, sym a.before.sub.ensures, sym a.at_most.ensures, c.if2.false)
-    a.before.before.round.ensures
+    rw (a.if-self.false, sym a.sub-height.ensures, sym a.at_most.ensures, c.if-at_most.false)
+    a.round-rounded.ensures
 
-pub top-goal-spec : {M : Type 1} → statement M
-top-goal-spec =
+pub top_goal_spec : {M : Type 1} → statement M
+top_goal_spec =
     tie.close
     (tie.spec
     returns

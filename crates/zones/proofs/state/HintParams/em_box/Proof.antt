@@ -22,7 +22,7 @@ group-other (pos n) h = ne_eqb n 1 h
 group-other (negsuc n) h = refl
 
 -- what the first two tests leave
-module _ (c : tie.Else2) where
+module _ (c : tie.Else-blues-eq0) where
   abbrev begin : tie.Start
   begin = c.before.before.before.before.before
 
@@ -30,37 +30,37 @@ module _ (c : tie.Else2) where
   group = group-one begin.args.self.language_group (search rules) (search rules)
 
   some : eqb begin.args.self.blues.count 0 ≡ false
-  some = ne_eqb begin.args.self.blues.count 0 c.if2.false
+  some = ne_eqb begin.args.self.blues.count 0 c.if-blues-eq0.false
 
-returns : tie.Need-returns
+returns : tie.Need-returns-then-self-ne1
 unfolding em_box
-returns c = rw (group-other c.before.before.before.args.self.language_group c.if1.true)
+returns c = rw (group-other c.args.self.language_group c.if-self-ne1.true)
 
-returns-2 : tie.Need-returns-2
+returns-2 : tie.Need-returns-then-blues-eq0
 unfolding em_box
 returns-2 c =
     let s = c.before.before.before.before.before in
     rw (
       group-one s.args.self.language_group (search rules) (search rules),
-      eq-eqb s.args.self.blues.count 0 c.if2.true,
+      eq-eqb s.args.self.blues.count 0 c.if-blues-eq0.true,
     )
 
-returns-3 : tie.Need-returns-3
+returns-3 : tie.Need-returns-then-blues-ne2
 unfolding em_box
 returns-3 c =
     let s = begin c.before in
-    rw (group c.before, some c.before, ne_eqb s.args.self.blues.count 2 c.if3.true)
+    rw (group c.before, some c.before, ne_eqb s.args.self.blues.count 2 c.if-blues-ne2.true)
 
-element-copy-out-low : tie.Need-element-copy-out-low
+element-copy-out-low : tie.Need-bounds-blues-0
 element-copy-out-low c = search rules
 
-element-copy-out-high : tie.Need-element-copy-out-high
+element-copy-out-high : tie.Need-bounds-blues-1
 element-copy-out-high c = search rules
 
-wholly-below-requires : tie.Need-wholly-below-requires
+wholly-below-requires : tie.Need-wholly_below-requires
 wholly-below-requires c κs = search rules
 
-returns-4 : tie.Need-returns-4
+returns-4 : tie.Need-returns-then-not-wholly_below
 unfolding em_box
 returns-4 c =
     let e = c.before.before.before.before in
@@ -69,29 +69,29 @@ returns-4 c =
       group e.before,
       some e.before,
       eq-eqb s.args.self.blues.count 2 (search rules),
-      sym c.before.wholly-below.ensures,
-      not-true c.before.wholly-below.result c.if4.true,
+      sym c.wholly_below.ensures,
+      c.if-not-wholly_below.true,
     )
 
-wholly-above-requires : tie.Need-wholly-above-requires
+wholly-above-requires : tie.Need-wholly_above-requires
 wholly-above-requires c κs = search rules
 
-returns-5 : tie.Need-returns-5
+returns-5 : tie.Need-returns
 unfolding em_box
 returns-5 c =
     let e = c.before.before.before.before.before in
     let s = begin e.before in
-    let below = c.before.before.wholly-below in
+    let below = c.wholly_below in
     rw (
       group e.before,
       some e.before,
       eq-eqb s.args.self.blues.count 2 (search rules),
       sym below.ensures,
-      not-false below.result c.before.if4.false,
-    ) c.wholly-above.ensures
+      c.if-not-wholly_below.false,
+    ) c.wholly_above.ensures
 
-pub em-box-spec : {M : Type 1} → statement M
-em-box-spec =
+pub em_box_spec : {M : Type 1} → statement M
+em_box_spec =
     tie.close
     (tie.spec
     returns

@@ -11,11 +11,11 @@ returns : tie.Need-returns
 returns c =
     let g = c.before.before in
     let l = g.before in
-    let a = l.before.before.args in
-    c.capture-by.ensures ∙
+    let a = l.args in
+    c.capture_by.ensures ∙
     ap (λ (st : HintState). capture_of st a.bottom a.top)
     (state-is a.self _ _ g.gauge.ensures l.list.ensures)
 
-pub capture-spec : {M : Type 1} → statement M
-capture-spec =
+pub capture_spec : {M : Type 1} → statement M
+capture_spec =
     tie.close (tie.spec (λ c κs. search rules) (λ c κs. search rules) (λ c κs. search rules) returns)
