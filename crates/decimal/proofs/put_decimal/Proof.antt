@@ -20,35 +20,35 @@ unfolding decimal_text low_bits
 text-above (pos m) b f s e = ap size_text (omega (arith, f.sfits))
 text-above (negsuc m) b f s e = absurd (true≢false e)
 
-module _ (c : tie.After-bits-of) where
-  fit : SFits w32 c.before.before.before.args.x.bits
+module _ (c : tie.After-bits_of-bits) where
+  fit : SFits w32 c.args.x.bits
   fit = search rules
 
-  told : c.bits_of.result ≡ bits_of c.before.before.before.args.x.bits
-  told = c.bits_of.ensures ∙ ap bits_of (to_z-of_z fit)
+  told : c.bits_of-bits.result ≡ bits_of c.args.x.bits
+  told = c.bits_of-bits.ensures ∙ ap bits_of (to_z-of_z fit)
 
-returns : tie.Need-returns
+returns : tie.Need-returns-then-x-lt0
 returns c =
     let q = c.before.before in
     let w = q.before in
     let p = w.before.before.before.before in
     let e = p.before.before in
     let b = e.before.before.before in
-    let n = w.wrapping-sub-u32.result in
-    let m = text-below _ b.bits_of.result n (fit b) (told b) (rw (to_z-of_z (fit b)) at e.if1.true)
-    (omega (arith, w.wrapping-sub-u32.type-inv)) w.wrapping-sub-u32.ensures in
-    rw m (in-room-both p.put_byte.ensures q.put-size.ensures (rw m at b.before.before.before.requires))
+    let n = w.wrapping_sub_u32.result in
+    let m = text-below _ b.bits_of-bits.result n (fit b) (told b) (rw (to_z-of_z (fit b)) at e.if-x-lt0.true)
+    (omega (arith, w.wrapping_sub_u32.type_inv)) w.wrapping_sub_u32.ensures in
+    rw m (in-room-both p.put_byte-next.ensures q.put_size.ensures (rw m at b.requires))
 
-returns-2 : tie.Need-returns-2
+returns-2 : tie.Need-returns
 returns-2 c =
     let q = c.before.before in
     let e = q.before.before in
     let b = e.before.before.before in
-    let m = text-above _ b.bits_of.result (fit b) (told b) (rw (to_z-of_z (fit b)) at e.if1.false) in
-    rw m (q.put-size2.ensures (rw m at b.before.before.before.requires))
+    let m = text-above _ b.bits_of-bits.result (fit b) (told b) (rw (to_z-of_z (fit b)) at e.if-x-lt0.false) in
+    rw m (q.put_size-2.ensures (rw m at b.requires))
 
-pub put-decimal-spec : {M : Type 1} → statement M
-put-decimal-spec =
+pub put_decimal_spec : {M : Type 1} → statement M
+put_decimal_spec =
     tie.close
     (tie.spec (λ c κs. search rules) (λ c κs. search rules) (λ c κs. search rules) (λ c κs. search rules)
     (λ c. search rules) returns (λ c κs. search rules) (λ c. search rules) returns-2)

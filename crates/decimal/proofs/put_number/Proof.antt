@@ -4,7 +4,7 @@ use Rattle.decimal.proofs.put_number.Statement.{statement}
 use Rattle.decimal.proofs.put_number.Tie as tie
 
 returns : tie.Need-returns
-returns c = c.before.before.put-digits.ensures c.before.before.before.before.before.requires
+returns c = c.put_digits.ensures c.requires
 
-pub put-number-spec : {M : Type 1} → statement M
-put-number-spec = tie.close (tie.spec (λ c κs. search rules) (λ c. search rules) returns)
+pub put_number_spec : {M : Type 1} → statement M
+put_number_spec = tie.close (tie.spec (λ c κs. search rules) (λ c. search rules) returns)

@@ -15,13 +15,13 @@ part b at xs k e =
 
 returns : tie.Need-returns
 returns c =
-    let p = c.before.before.copy-bytes in
-    let a = c.before.before.before.before.before.before.args in
+    let p = c.copy_bytes in
+    let a = c.args in
     let k : a.at + length a.text.now - a.at ≡ length a.text.now = omega arith in
     record { ends = refl; memory = rw p.ensures (part a.out.now a.at a.text.now _ k) }
 
-pub put-text-spec : {M : Type 1} → statement M
-put-text-spec =
+pub put_text_spec : {M : Type 1} → statement M
+put_text_spec =
     tie.close
     (tie.spec (λ c. search rules) (λ c. search rules) (λ c. search rules) (λ c. search rules) (λ c κs. search rules)
     (λ c. search rules) returns)

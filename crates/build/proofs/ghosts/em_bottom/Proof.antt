@@ -7,10 +7,10 @@ use Rattle.build.proofs.ghosts.em_bottom.Tie as tie
 returns : tie.Need-returns
 unfolding em_bottom
 returns c =
-    rw (c.before.sub.ensures, c.before.before.round.ensures, c.before.before.before.mul.ensures) at
-    c.ghost-at.ensures
+    rw (c.sub-device.ensures, c.round.ensures, c.mul.ensures) at
+    c.ghost_at.ensures
 
-pub em-bottom-spec : {M : Type 1} → statement M
-em-bottom-spec =
+pub em_bottom_spec : {M : Type 1} → statement M
+em_bottom_spec =
     tie.close
     (tie.spec (λ c κs. search rules) (λ c κs. search rules) (λ c κs. search rules) (λ c κs. search rules) returns)

@@ -7,10 +7,10 @@ use Rattle.build.proofs.ghosts.em_top.Tie as tie
 returns : tie.Need-returns
 unfolding em_top
 returns c =
-    rw (c.before.add.ensures, c.before.before.round.ensures, c.before.before.before.mul.ensures) at
-    c.ghost-at.ensures
+    rw (c.add-device.ensures, c.round.ensures, c.mul.ensures) at
+    c.ghost_at.ensures
 
-pub em-top-spec : {M : Type 1} → statement M
-em-top-spec =
+pub em_top_spec : {M : Type 1} → statement M
+em_top_spec =
     tie.close
     (tie.spec (λ c κs. search rules) (λ c κs. search rules) (λ c κs. search rules) (λ c κs. search rules) returns)

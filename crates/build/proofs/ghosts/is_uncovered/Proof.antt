@@ -33,25 +33,25 @@ module _ (ls : List ℤ) (ts : List ℕ) (n : ℕ) (s : Fixed) (h : n ≤ 96) wh
         read-height ls ts n h s (n - 1) (omega arith),
       )
 
-returns : tie.Need-returns
-returns c = λ ts s. sym (none _ ts _ s c.before.requires (search rules))
+returns : tie.Need-returns-then-len-eq0
+returns c = λ ts s. sym (none _ ts _ s c.requires (search rules))
 
-returns-2 : tie.Need-returns-2
+returns-2 : tie.Need-returns-then-less
 returns-2 c =
     let e = c.before.before.before in
-    let t = sym (c.before.less.ensures ∙ ap (less_f ZERO) c.before.before.height-at.ensures) ∙ c.if2.true in
-    λ ts s. sym (some _ ts _ s e.before.requires e.if1.false ∙ rw t)
+    let t = sym (c.less.ensures ∙ ap (less_f ZERO) c.height_at.ensures) ∙ c.if-less.true in
+    λ ts s. sym (some _ ts _ s e.requires e.if-len-eq0.false ∙ rw t)
 
-returns-3 : tie.Need-returns-3
+returns-3 : tie.Need-returns
 returns-3 c =
     let l = c.before.before in
     let e = l.before.before.before in
-    let t = sym (l.before.less.ensures ∙ ap (less_f ZERO) l.before.before.height-at.ensures) ∙ l.if2.false in
-    λ ts s. sym (some _ ts _ s e.before.requires e.if1.false ∙
-    rw t (sym (c.less2.ensures ∙ ap (λ (x : Fixed). less_f x ZERO) c.before.height-at2.ensures)))
+    let t = sym (l.less.ensures ∙ ap (less_f ZERO) l.height_at.ensures) ∙ l.if-less.false in
+    λ ts s. sym (some _ ts _ s e.requires e.if-len-eq0.false ∙
+    rw t (sym (c.less-2.ensures ∙ ap (λ (x : Fixed). less_f x ZERO) c.height_at-2.ensures)))
 
-pub is-uncovered-spec : {M : Type 1} → statement M
-is-uncovered-spec =
+pub is_uncovered_spec : {M : Type 1} → statement M
+is_uncovered_spec =
     tie.close
     (tie.spec returns (λ c κs. search rules) (λ c κs. search rules) returns-2 (λ c. search rules) (λ c κs. search rules)
     (λ c κs. search rules) returns-3)

@@ -27,28 +27,28 @@ boxed s initial given one two b t p q r w =
     ap (λ (m : HintMap). insert_in m (One (em_top s)) initial given)
     (insert-locked (new_map s) (One (em_bottom s)) initial initial given refl))
 
-returns : tie.Need-returns
+returns : tie.Need-returns-then-wanted
 unfolding map_in
 returns c =
     let one = c.before.before.before in
     let t = one.before.before.before in
     let s = t.before.before.before in
     record {
-      lent = c.insert-edges2.ensures.lent;
+      lent = c.insert_edges.ensures.lent;
       map = λ initial given.
-          rw t.before.before.if1.true
-          (boxed s.args.scale initial given _ _ t.before.em-bottom.result t.em-top.result
-          t.before.em-bottom.ensures t.em-top.ensures
-          (one.insert-edges.ensures.map s.args.scale initial)
-          (c.insert-edges2.ensures.map s.args.scale initial));
+          rw t.if-wanted.true
+          (boxed s.args.scale initial given _ _ t.em_bottom.result t.em_top.result
+          t.em_bottom.ensures t.em_top.ensures
+          (one.insert_edges-one.ensures.map s.args.scale initial)
+          (c.insert_edges.ensures.map s.args.scale initial));
     }
 
-returns-2 : tie.Need-returns-2
+returns-2 : tie.Need-returns
 unfolding map_in em_boxed
-returns-2 c = record { lent = none_lent _ _ c.before.requires; map = λ initial given. rw c.if1.false }
+returns-2 c = record { lent = none_lent _ _ c.requires; map = λ initial given. rw c.if-wanted.false }
 
-pub put-em-box-spec : {M : Type 1} → statement M
-put-em-box-spec =
+pub put_em_box_spec : {M : Type 1} → statement M
+put_em_box_spec =
     tie.close
     (tie.spec (λ c κs. search rules) (λ c κs. search rules)
-    (λ c κs. none_lent _ _ c.before.before.before.before.before.requires) (λ c κs. search rules) returns returns-2)
+    (λ c κs. none_lent _ _ c.requires) (λ c κs. search rules) returns returns-2)

@@ -14,13 +14,13 @@ returns c =
     let g = m.before.before.before.before in
     let z = g.before.before.before in
     let l = z.before.before in
-    let a = l.before.before.args in
-    let made = rw (state-is a.state _ _ g.gauge.ensures z.list2.ensures) at m.make-initial.ensures.0 in
-    c.validate.ensures ∙ ap valid_map f.from-lists.ensures ∙ made.map ∙
+    let a = l.args in
+    let made = rw (state-is a.state _ _ g.gauge.ensures z.list-2.ensures) at m.make_initial-len.ensures.0 in
+    c.validate.ensures ∙ ap valid_map f.from_lists.ensures ∙ made.map ∙
     ap (initial_of a.state) l.list.ensures.stems
 
-pub build-initial-spec : {M : Type 1} → statement M
-build-initial-spec =
+pub build_initial_spec : {M : Type 1} → statement M
+build_initial_spec =
     tie.close
     (tie.spec (λ c κs. search rules) (λ c κs. search rules) (λ c κs. search rules) (λ c κs. search rules)
     (λ c κs. search rules) (λ c κs. search rules) returns)

@@ -18,14 +18,14 @@ both : (m m' : HintMap) (ss ss' : Stems) → m ≡ m' → ss ≡ ss' →
     ◌≡◌ {A = Built} (record { map = m; stems = ss }) (record { map = m'; stems = ss' })
 both m m' ss ss' p q = rw (p, q)
 
-make-map-requires : tie.Need-make-map-requires
+make-map-requires : tie.Need-make_map-len-requires
 make-map-requires c κs =
     let k = c.before.before.before.before.before.before.before in
     let l = k.before.before.before.before.before.before in (
       record {
         whole = search rules;
         long = l.list.ensures.long;
-        initial = omega (arith, k.least.ensures);
+        initial = omega (arith, k.least-size.ensures);
       },
       refl,
     )
@@ -42,15 +42,15 @@ returns c =
     let l = z.before.before in
     let s = l.before.before in
     let a = s.args in
-    let made = rw (state-is a.state _ _ g.gauge.ensures z.list2.ensures) at m.make-map.ensures.0 in
-    both _ _ _ _ (v.validate.ensures ∙ ap valid_map f.from-lists.ensures) c.from_list.ensures ∙
+    let made = rw (state-is a.state _ _ g.gauge.ensures z.list-2.ensures) at m.make_map-len.ensures.0 in
+    both _ _ _ _ (v.validate-map.ensures ∙ ap valid_map f.from_lists.ensures) c.from_list.ensures ∙
     made.built a.initial refl
-    (listed-lines a.initial _ _ _ (held-long a.initial s.well-formed.1.1.1.0.1.1.0.1.0.1)
-    i.list3.ensures k.least.ensures) ∙
+    (listed-lines a.initial _ _ _ (held-long a.initial s.well_formed.1.1.1.0.1.1.0.1.0.1)
+    i.list-3.ensures k.least-size.ensures) ∙
     ap (built_of a.state a.mask a.initial) l.list.ensures.stems
 
-pub build-map-spec : {M : Type 1} → statement M
-build-map-spec =
+pub build_map_spec : {M : Type 1} → statement M
+build_map_spec =
     tie.close
     (tie.spec (λ c κs. search rules) (λ c κs. search rules) (λ c κs. search rules) (λ c κs. search rules)
     (λ c κs. search rules) make-map-requires (λ c κs. search rules) (λ c κs. search rules) (λ c κs. search rules)

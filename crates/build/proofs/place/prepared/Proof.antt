@@ -19,29 +19,29 @@ module _ (st : HintState) (stem : StemHint) (i : ℕ) (b t : Hint) (p : b ≡ se
   unfolding prepared_of
   prepared-by u v x y = rw (sym p, sym q, x, y)
 
-returns : tie.Need-returns
+returns : tie.Need-returns-then-is_locked
 returns c =
     let e = c.before.before in
-    sym (prepared-by _ _ _ _ _ e.before.setup.ensures e.setup2.ensures true
-    _ (sym c.before.is-locked.ensures ∙ c.if1.true) refl)
+    sym (prepared-by _ _ _ _ _ e.setup-bottom.ensures e.setup-top.ensures true
+    _ (sym c.is_locked.ensures ∙ c.if-is_locked.true) refl)
 
-returns-2 : tie.Need-returns-2
+returns-2 : tie.Need-returns-then-is_locked-2
 returns-2 c =
     let l = c.before.before in
     let e = l.before.before in
-    sym (prepared-by _ _ _ _ _ e.before.setup.ensures e.setup2.ensures false true
-    (sym l.before.is-locked.ensures ∙ l.if1.false) (sym c.before.is-locked2.ensures ∙ c.if2.true))
+    sym (prepared-by _ _ _ _ _ e.setup-bottom.ensures e.setup-top.ensures false true
+    (sym l.is_locked.ensures ∙ l.if-is_locked.false) (sym c.is_locked-2.ensures ∙ c.if-is_locked-2.true))
 
-returns-3 : tie.Need-returns-3
+returns-3 : tie.Need-returns
 returns-3 c =
     let f = c.before in
     let l = f.before.before in
     let e = l.before.before in
-    c.capture-by.ensures ∙ sym (prepared-by _ _ _ _ _ e.before.setup.ensures e.setup2.ensures false false
-    (sym l.before.is-locked.ensures ∙ l.if1.false) (sym f.before.is-locked2.ensures ∙ f.if2.false))
+    c.capture_by.ensures ∙ sym (prepared-by _ _ _ _ _ e.setup-bottom.ensures e.setup-top.ensures false false
+    (sym l.is_locked.ensures ∙ l.if-is_locked.false) (sym f.is_locked-2.ensures ∙ f.if-is_locked-2.false))
 
-pub prepared-spec : {M : Type 1} → statement M
-prepared-spec =
+pub prepared_spec : {M : Type 1} → statement M
+prepared_spec =
     tie.close
     (tie.spec (λ c κs. search rules) (λ c κs. search rules) (λ c κs. search rules) returns (λ c κs. search rules)
     returns-2 (λ c κs. search rules) returns-3)

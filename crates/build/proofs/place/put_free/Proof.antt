@@ -15,14 +15,14 @@ returns c =
     let t = h.before.before in
     let s = t.before.before in
     record {
-      lent = c.insert-edges.ensures.lent;
-      placed = λ st initial rest p q l a. rw (← s.stem-at.ensures) (sym (free-puts st initial _ _ _ _ p q l refl a
-          h.before.shape.ensures t.before.setup.ensures t.setup2.ensures h.choose.ensures
-          r.placed.ensures (c.insert-edges.ensures.map _ initial)));
+      lent = c.insert_edges.ensures.lent;
+      placed = λ st initial rest p q l a. rw (← s.stem_at-stem.ensures) (sym (free-puts st initial _ _ _ _ p q l refl a
+          h.shape.ensures t.setup-bottom.ensures t.setup-top.ensures h.choose-edges.ensures
+          r.placed.ensures (c.insert_edges.ensures.map _ initial)));
     }
 
-pub put-free-spec : {M : Type 1} → statement M
-put-free-spec =
+pub put_free_spec : {M : Type 1} → statement M
+put_free_spec =
     tie.close
     (tie.spec (λ c κs. search rules) (λ c. search rules) (λ c κs. search rules) (λ c. search rules)
     (λ c κs. search rules) (λ c κs. search rules) (λ c κs. search rules) (λ c κs. search rules) (λ c κs. search rules)

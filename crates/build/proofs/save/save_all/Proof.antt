@@ -22,12 +22,12 @@ use Rattle.build.proofs.Saved.{save-more, save-ends, save-synthetic, save-stem, 
 use Rattle.build.proofs.save.save_all.Statement.{statement}
 use Rattle.build.proofs.save.save_all.Tie as tie
 
-abbrev invariant-loop : tie.invariant-loop
+abbrev invariant-loop : tie.invariant-loop-i
 invariant-loop stems₀ lines tags len i₀ stems i =
     (i ≤ len) × ((length stems ≡ 480) × ((n : ℕ) → saved_all (held lines tags len) (stems_in stems₀ n) ≡
     saved_all (drop i (held lines tags len)) (stems_in stems n)))
 
-abbrev decreases-loop : tie.decreases-loop
+abbrev decreases-loop : tie.decreases-loop-i
 decreases-loop stems₀ lines tags len i₀ stems i = len - i
 
 -- a stem saved in its place is saved in the list
@@ -39,69 +39,69 @@ saved-in l n e st long p r q =
     save-stem e (stems_in l n) st r (q ∙ ap (saved_stem e) (sym (stem-in l n e.index no_stem p))))
 
 -- ---- the edge that is saved
-module _ (c : tie.After-edge-at invariant-loop decreases-loop) where
-  abbrev at : tie.At-loop invariant-loop decreases-loop
+module _ (c : tie.After-edge_at-edge invariant-loop decreases-loop) where
+  abbrev at : tie.At-loop-i invariant-loop decreases-loop
   at = c.before.before
 
   -- whatever the stems become by it, the edges after it are left
   again : (ns : List ℤ) → length ns ≡ 480 →
-      ((n : ℕ) → saved_in c.edge-at.result (stems_in at.loop.stems n) ≡ stems_in ns n) →
-      invariant-loop at.before.args.stems.now at.before.args.lines.now at.before.args.tags.now
-      at.before.args.len 0 ns (at.loop.i + 1)
+      ((n : ℕ) → saved_in c.edge_at-edge.result (stems_in at.loop-i.stems n) ≡ stems_in ns n) →
+      invariant-loop at.args.stems.now at.args.lines.now at.args.tags.now
+      at.args.len 0 ns (at.loop-i.i + 1)
   again ns long e =
-      let es = held at.before.args.lines.now at.before.args.tags.now at.before.args.len in
-      let l = held-length at.before.args.lines.now at.before.args.tags.now at.before.args.len
-      at.before.pre.1 in
-      let k : at.loop.i < length es = omega (arith, l) in (
+      let es = held at.args.lines.now at.args.tags.now at.args.len in
+      let l = held-length at.args.lines.now at.args.tags.now at.args.len
+      at.requires.1 in
+      let k : at.loop-i.i < length es = omega (arith, l) in (
         omega arith,
         (
           long,
-          λ n. at.loop.inv.1.1 n ∙ save-more es (stems_in at.loop.stems n) at.loop.i k ∙
-              ap (λ (x : Hint). saved_all (drop (at.loop.i + 1) es) (saved_in x (stems_in at.loop.stems n)))
-              (held_at at.before.args.lines.now at.before.args.tags.now at.before.args.len
-              at.before.pre.1 at.loop.i (omega arith) ∙
-              sym c.edge-at.ensures) ∙
-              ap (saved_all (drop (at.loop.i + 1) es)) (e n),
+          λ n. at.loop-i.invariant.1.1 n ∙ save-more es (stems_in at.loop-i.stems n) at.loop-i.i k ∙
+              ap (λ (x : Hint). saved_all (drop (at.loop-i.i + 1) es) (saved_in x (stems_in at.loop-i.stems n)))
+              (held_at at.args.lines.now at.args.tags.now at.args.len
+              at.requires.1 at.loop-i.i (omega arith) ∙
+              sym c.edge_at-edge.ensures) ∙
+              ap (saved_all (drop (at.loop-i.i + 1) es)) (e n),
         ),
       )
 
-loop-again : tie.Need-loop-preserved invariant-loop decreases-loop
+loop-again : tie.Need-loop-i-preserved-then-is_synthetic invariant-loop decreases-loop
 loop-again c =
     let e = c.before.before in
-    again e _ (at e).loop.invariant.1.0
-    (λ n. save-synthetic e.edge-at.result _ (sym c.before.is-synthetic.ensures ∙ c.if1.true))
+    again e _ (at e).loop-i.invariant.1.0
+    (λ n. save-synthetic e.edge_at-edge.result _ (sym c.is_synthetic.ensures ∙ c.if-is_synthetic.true))
 
-loop-again-2 : tie.Need-loop-preserved-2 invariant-loop decreases-loop
+loop-again-2 : tie.Need-loop-i-preserved invariant-loop decreases-loop
 loop-again-2 c =
     let s = c.before.before in
     let e = s.before.before in
-    let n = (at e).loop.invariant.1.0 in
-    let real = sym s.before.is-synthetic.ensures ∙ s.if1.false in
-    let x = e.edge-at.result in
+    let n = (at e).loop-i.invariant.1.0 in
+    let real = sym s.is_synthetic.ensures ∙ s.if-is_synthetic.false in
+    let x = e.edge_at-edge.result in
     ⊎_elim
-    (λ w. let k : x.index < 96 = search (rules, w.0.taken) in
+    (λ w. let k : x.index < 96 = search (rules, w.0.true) in
     let q = w.6 ∙ w.5.ensures in
     let f = w.4.ensures ∙ ap (saved_stem x) w.3.ensures in
     again e _ (rw q (set_long _ n x.index k _)) (λ m. saved-in _ m x _ n k real f ∙ sym (ap (λ y. stems_in y m) q)))
     (λ w. again e _ (rw w.1 n)
-    (λ m. save-past x _ (omega (arith, w.0.left, stems-long (at e).loop.stems m)) ∙
+    (λ m. save-past x _ (omega (arith, w.0.left, stems-long (at e).loop-i.stems m)) ∙
     sym (ap (λ y. stems_in y m) w.1)))
-    c.if2.branch
+    c.if-k-lt-MAX_HINTS.branch
 
 returns : tie.Need-returns invariant-loop decreases-loop
 returns c =
     let l = c.before in
-    let a = l.before.args in
-    let k = held-length a.lines.now a.tags.now a.len l.before.requires.1 in
+    let a = l.args in
+    let k = held-length a.lines.now a.tags.now a.len l.requires.1 in
     record {
-      long = l.loop.invariant.1.0;
-      stems = λ n. sym (l.loop.invariant.1.1 n ∙ save-ends _ _ l.loop.i (omega (arith, k)));
+      long = l.loop-i.invariant.1.0;
+      stems = λ n. sym (l.loop-i.invariant.1.1 n ∙ save-ends _ _ l.loop-i.i (omega (arith, k)));
     }
 
-pub save-all-spec : {M : Type 1} → statement M
-save-all-spec =
+pub save_all_spec : {M : Type 1} → statement M
+save_all_spec =
     tie.close
     (tie.spec invariant-loop decreases-loop (λ c. (omega arith, (c.requires.0, λ n. refl)))
-    (λ c κs. omega (arith, c.before.before.requires.1))
+    (λ c κs. omega (arith, c.requires.1))
     (λ c κs. search rules) (λ c. omega arith) (λ c. omega arith) loop-again (λ c. search rules) (λ c κs. search rules)
     (λ c κs. search rules) (λ c κs. search rules) (λ c. omega arith) (λ c. omega arith) loop-again-2 returns)

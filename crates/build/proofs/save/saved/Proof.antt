@@ -4,12 +4,12 @@ use borrow.Author.Rules.{rules}
 use Rattle.build.proofs.save.saved.Statement.{statement}
 use Rattle.build.proofs.save.saved.Tie as tie
 
-returns : tie.Need-returns
-returns c = rw (← c.before.is-top.ensures, c.if1.true)
+returns : tie.Need-returns-then-is_top
+returns c = rw (← c.is_top.ensures, c.if-is_top.true)
 
-returns-2 : tie.Need-returns-2
-returns-2 c = rw (← c.before.is-top.ensures, c.if1.false)
+returns-2 : tie.Need-returns
+returns-2 c = rw (← c.is_top.ensures, c.if-is_top.false)
 
-pub saved-spec : {M : Type 1} → statement M
-saved-spec = tie.close
+pub saved_spec : {M : Type 1} → statement M
+saved_spec = tie.close
     (tie.spec (λ c κs. search rules) returns returns-2)

@@ -28,11 +28,11 @@ past_is start len bytes h = by (ltb bytes (start + len)) refl
         let y : len < 2147483648 = omega arith in
         rw (lt-leb 2147483648 start x, lt-leb 2147483648 len y)
 
-add-result : tie.Need-overflow-add-result
+add-result : tie.Need-overflow_add-result
 add-result c = search rules
 
 returns : tie.Need-returns
 returns c = sym (past_is c.args.start c.args.len c.args.bytes c.requires)
 
-pub mask-past-spec : {M : Type 1} → statement M
-mask-past-spec = tie.close (tie.spec add-result returns)
+pub mask_past_spec : {M : Type 1} → statement M
+mask_past_spec = tie.close (tie.spec add-result returns)

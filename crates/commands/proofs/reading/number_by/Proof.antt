@@ -11,8 +11,8 @@ use Rattle.commands.proofs.reading.number_by.Tie as tie
 
 returns : tie.Need-returns
 returns c =
-    let fits : SFits w32 c.signed.result = search rules in
-    ap from_bits (to_z-of_z fits ∙ c.signed.ensures ∙ ap signed c.before.word-by.ensures)
+    let fits : SFits w32 c.signed-bits.result = search rules in
+    ap from_bits (to_z-of_z fits ∙ c.signed-bits.ensures ∙ ap signed c.word_by.ensures)
 
-pub number-by-spec : {M : Type 1} → statement M
-number-by-spec = tie.close (tie.spec (λ c κs. search rules) (λ c κs. search rules) returns)
+pub number_by_spec : {M : Type 1} → statement M
+number_by_spec = tie.close (tie.spec (λ c κs. search rules) (λ c κs. search rules) returns)

@@ -8,13 +8,13 @@ use Rattle.drawing.proofs.calls.clear_hints.Tie as tie
 new-requires : tie.Need-new-requires
 new-requires c κs = search rules
 
-with-hints-requires : tie.Need-with-hints-requires
+with-hints-requires : tie.Need-with_hints-requires
 with-hints-requires c κs = search rules
 
 returns : tie.Need-returns
 returns c =
-    c.with-hints.ensures ∙ ap (λ (h : Hints). record { hints = h; pen = c.before.before.args.drawing.pen })
-    c.before.new.ensures
+    c.with_hints.ensures ∙ ap (λ (h : Hints). record { hints = h; pen = c.args.drawing.pen })
+    c.new.ensures
 
-pub clear-hints-spec : {M : Type 1} → statement M
-clear-hints-spec = tie.close (tie.spec new-requires with-hints-requires returns)
+pub clear_hints_spec : {M : Type 1} → statement M
+clear_hints_spec = tie.close (tie.spec new-requires with-hints-requires returns)

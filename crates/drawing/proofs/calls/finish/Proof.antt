@@ -7,23 +7,23 @@ use Rattle.drawing.proofs.Settled.{drawn-called}
 use Rattle.drawing.proofs.calls.finish.Statement.{statement}
 use Rattle.drawing.proofs.calls.finish.Tie as tie
 
-new-requires : tie.Need-new-requires
+new-requires : tie.Need-new-map-requires
 new-requires c κs = search rules
 
-draw-requires : tie.Need-draw-requires
+draw-requires : tie.Need-draw-drawn-requires
 draw-requires c κs = search rules
 
 settle-requires : tie.Need-settle-requires
 settle-requires c κs = search rules
 
-same_length : tie.Need-same-length
+same_length : tie.Need-shape_of-out
 same_length c = search rules
 
 returns : tie.Need-returns
 returns c =
     let w = c.before.before in
-    let a = w.before.before.before.before.before.before.args in
-    drawn-called a.state a.drawing (draw Finish) refl refl w.draw.ensures c.settle.ensures
+    let a = w.args in
+    drawn-called a.state a.drawing (draw Finish) refl refl w.draw-drawn.ensures c.settle.ensures
 
 pub finish_spec : {M : Type 1} → statement M
 finish_spec = tie.close (tie.spec new-requires draw-requires settle-requires same_length returns)

@@ -5,17 +5,17 @@ use Rattle.hints.specs.declared.hints.Hints.{Hints}
 use Rattle.drawing.proofs.calls.hint_mask.Statement.{statement}
 use Rattle.drawing.proofs.calls.hint_mask.Tie as tie
 
-with-mask-requires : tie.Need-with-mask-requires
+with-mask-requires : tie.Need-with_mask-requires
 with-mask-requires c κs = search rules
 
-with-hints-requires : tie.Need-with-hints-requires
+with-hints-requires : tie.Need-with_hints-requires
 with-hints-requires c κs = search rules
 
 returns : tie.Need-returns
 returns c =
-    c.with-hints.ensures ∙
-    ap (λ (h : Hints). record { hints = h; pen = c.before.before.before.args.drawing.pen })
-    c.before.with-mask.ensures
+    c.with_hints.ensures ∙
+    ap (λ (h : Hints). record { hints = h; pen = c.args.drawing.pen })
+    c.with_mask.ensures
 
-pub hint-mask-spec : {M : Type 1} → statement M
-hint-mask-spec = tie.close (tie.spec with-mask-requires with-hints-requires returns)
+pub hint_mask_spec : {M : Type 1} → statement M
+hint_mask_spec = tie.close (tie.spec with-mask-requires with-hints-requires returns)

@@ -32,49 +32,49 @@ fits s = search rules
 refused-requires : tie.Need-refused-requires
 refused-requires c κs = search rules
 
-returns : tie.Need-returns
+returns : tie.Need-returns-then-scale-lt1
 unfolding open_of
 returns c =
     let s = c.before.before.before.before in
-    let small : less_f s.args.scale (from_bits (pos 1)) ≡ true = rw (to_z-of_z (fits s)) at c.before.if1.true in
+    let small : less_f s.args.scale (from_bits (pos 1)) ≡ true = rw (to_z-of_z (fits s)) at c.if-scale-lt1.true in
     opens (rw small c.refused.ensures)
 
 -- the scale is not below the least
-large : (c : tie.Else1) → less_f c.before.before.before.args.scale (from_bits (pos 1)) ≡ false
-large c = rw (to_z-of_z (fits c.before.before.before)) at c.if1.false
+large : (c : tie.Else-scale-lt1) → less_f c.args.scale (from_bits (pos 1)) ≡ false
+large c = rw (to_z-of_z (fits c.before.before.before)) at c.if-scale-lt1.false
 
-counts-fit-requires : tie.Need-counts-fit-requires
+counts-fit-requires : tie.Need-counts_fit-requires
 counts-fit-requires c κs = search rules
 
-refused-requires-2 : tie.Need-refused-requires-2
+refused-requires-2 : tie.Need-refused-requires-then-not-counts_fit
 refused-requires-2 c κs = search rules
 
-returns-2 : tie.Need-returns-2
+returns-2 : tie.Need-returns-then-not-counts_fit
 unfolding open_of
 returns-2 c =
     let f = c.before.before in
     opens (rw (
       large f.before,
-      sym f.counts-fit.ensures,
-      not-true f.counts-fit.result c.before.if2.true,
-    ) c.refused2.ensures)
+      sym f.counts_fit.ensures,
+      c.if-not-counts_fit.true,
+    ) c.refused-then-not-counts_fit.ensures)
 
 -- and the counts fit
-fit : (c : tie.Else2) → counts_fit c.before.before.before.before.before.args.params ≡ true
-fit c = sym c.before.counts-fit.ensures ∙ not-false c.before.counts-fit.result c.if2.false
+fit : (c : tie.Else-not-counts_fit) → counts_fit c.args.params ≡ true
+fit c = sym c.counts_fit.ensures ∙ c.if-not-counts_fit.false
 
 new-requires : tie.Need-new-requires
 new-requires c κs = omega (heights, large c.before.before)
 
-new-drawing-requires : tie.Need-new-drawing-requires
+new-drawing-requires : tie.Need-new_drawing-requires
 new-drawing-requires c κs = search rules
 
-returns-3 : tie.Need-returns-3
+returns-3 : tie.Need-returns
 unfolding open_of
 returns-3 c =
     opens (rw (
-      c.new-drawing.ensures,
-      c.before.new.ensures,
+      c.new_drawing.ensures,
+      c.new.ensures,
       large c.before.before.before.before,
       fit c.before.before,
     ))

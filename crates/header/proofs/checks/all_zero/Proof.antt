@@ -12,50 +12,50 @@ use Rattle.header.specs.Header.{all_zero}
 use Rattle.header.proofs.checks.all_zero.Statement.{statement}
 use Rattle.header.proofs.checks.all_zero.Tie as tie
 
-abbrev invariant-loop : tie.invariant-loop
+abbrev invariant-loop : tie.invariant-loop-i
 invariant-loop script at end i₀ i = (all_zero (drop at script) ≡ all_zero (drop i script)) × (i ≤ end)
 
-abbrev decreases-loop : tie.decreases-loop
+abbrev decreases-loop : tie.decreases-loop-i
 decreases-loop script at end i₀ i = end - i
 
-loop-holds : tie.Need-loop-init invariant-loop decreases-loop
+loop-holds : tie.Need-loop-i-init invariant-loop decreases-loop
 loop-holds c = (refl, search rules)
 
-shared-slice-read-if1 : tie.Need-shared-slice-read-if1 invariant-loop decreases-loop
+shared-slice-read-if1 : tie.Need-bounds-script-i invariant-loop decreases-loop
 shared-slice-read-if1 c = search rules
 
-returns : tie.Need-returns invariant-loop decreases-loop
+returns : tie.Need-returns-then-script-i-ne0 invariant-loop decreases-loop
 unfolding all_zero
 returns c =
-    let l = c.before.before.before.loop in
-    let s = c.before.before.before.before.args.script.now in
+    let l = c.loop-i in
+    let s = c.args.script.now in
     let h : l.i < length s = omega arith in
-    sym (l.invariant.0 ∙ rw (drop-cons s l.i 0 h, ne_eqb (get_or s l.i 0) 0 c.if1.true))
+    sym (l.invariant.0 ∙ rw (drop-cons s l.i 0 h, ne_eqb (get_or s l.i 0) 0 c.if-script-i-ne0.true))
 
-add-i : tie.Need-overflow-add-i invariant-loop decreases-loop
+add-i : tie.Need-overflow_step-i invariant-loop decreases-loop
 add-i c = search rules
 
-loop-less : tie.Need-loop-smaller invariant-loop decreases-loop
+loop-less : tie.Need-loop-i-smaller invariant-loop decreases-loop
 loop-less c = search rules
 
-loop-again : tie.Need-loop-preserved invariant-loop decreases-loop
+loop-again : tie.Need-loop-i-preserved invariant-loop decreases-loop
 unfolding all_zero
 loop-again c =
-    let l = c.before.before.before.loop in
-    let s = c.before.before.before.before.args.script.now in
+    let l = c.loop-i in
+    let s = c.args.script.now in
     let h : l.i < length s = omega arith in
-    (l.invariant.0 ∙ rw (drop-cons s l.i 0 h, eq-eqb (get_or s l.i 0) 0 c.if1.false, add-one), omega arith)
+    (l.invariant.0 ∙ rw (drop-cons s l.i 0 h, eq-eqb (get_or s l.i 0) 0 c.if-script-i-ne0.false, add-one), omega arith)
 
-returns-2 : tie.Need-returns-2 invariant-loop decreases-loop
+returns-2 : tie.Need-returns invariant-loop decreases-loop
 unfolding all_zero
 returns-2 c =
-    let l = c.before.loop in
-    let s = c.before.before.args.script.now in
+    let l = c.loop-i in
+    let s = c.args.script.now in
     let h : length s ≤ l.i = omega arith in
     sym (l.invariant.0 ∙ ap all_zero (drop_of_length-le s h))
 
-pub all-zero-spec : {M : Type 1} → statement M
-all-zero-spec =
+pub all_zero_spec : {M : Type 1} → statement M
+all_zero_spec =
     tie.close
     (tie.spec
     invariant-loop

@@ -16,31 +16,31 @@ use Rattle.header.proofs.checks.check_params.Statement.{statement}
 use Rattle.header.proofs.checks.check_params.Tie as tie
 
 -- the scale is a number of 32 bits
-fits : (c : tie.After-struct-told) → SFits w32 c.before.before.number.result.bits
+fits : (c : tie.After-struct_told-1) → SFits w32 c.number.result.bits
 fits c = search rules
 
-abbrev script : tie.Else1 → List ℕ
-script c = c.before.before.before.before.before.args.script.now
+abbrev script : tie.Else-number-lt1 → List ℕ
+script c = c.args.script.now
 
-at1 : (c : tie.Else1) → Past (param_rows (raw_at (script c))) 1
+at1 : (c : tie.Else-number-lt1) → Past (param_rows (raw_at (script c))) 1
 unfolding param_rows
 at1 c =
     pass 0 (record { rest = refl })
-    (rw (to_z-of_z (fits c.before), c.before.before.before.number.ensures) at c.if1.false)
+    (rw (to_z-of_z (fits c.before), c.number.ensures) at c.if-number-lt1.false)
 
-at2 : (c : tie.Else2) → Past (param_rows (raw_at (script c.before.before))) 2
+at2 : (c : tie.Else-blues-gt-MAX_BLUES) → Past (param_rows (raw_at (script c.before.before))) 2
 unfolding param_rows
 at2 c = pass 1 (at1 c.before.before) (omega tests)
 
-at3 : (c : tie.Else3) → Past (param_rows (raw_at (script c.before.before.before.before))) 3
+at3 : (c : tie.Else-others-gt-MAX_BLUES) → Past (param_rows (raw_at (script c.before.before.before.before))) 3
 unfolding param_rows
 at3 c = pass 2 (at2 c.before.before) (omega tests)
 
-at4 : (c : tie.Else4) → Past (param_rows (raw_at (script c.before.before.before.before.before.before))) 4
+at4 : (c : tie.Else-family-gt-MAX_BLUES) → Past (param_rows (raw_at (script c.before.before.before.before.before.before))) 4
 unfolding param_rows
 at4 c = pass 3 (at3 c.before.before) (omega tests)
 
-at5 : (c : tie.Else5) → Past
+at5 : (c : tie.Else-family_others-gt-MAX_BLUES) → Past
     (param_rows (raw_at (script c.before.before.before.before.before.before.before.before))) 5
 unfolding param_rows
 at5 c = pass 4 (at4 c.before.before) (omega tests)
@@ -48,68 +48,68 @@ at5 c = pass 4 (at4 c.before.before) (omega tests)
 number-requires : tie.Need-number-requires
 number-requires c κs = search rules
 
-returns : tie.Need-returns
+returns : tie.Need-returns-then-number-lt1
 unfolding param_rows
 returns c =
     says (stop 0 (record { rest = refl })
-    (rw (to_z-of_z (fits c.before), c.before.before.before.number.ensures) at c.if1.true))
+    (rw (to_z-of_z (fits c.before), c.number.ensures) at c.if-number-lt1.true))
 
-natural-requires : tie.Need-natural-requires
+natural-requires : tie.Need-natural-blues-requires
 natural-requires c κs = search rules
 
-returns-2 : tie.Need-returns-2
+returns-2 : tie.Need-returns-then-blues-gt-MAX_BLUES
 unfolding param_rows
 returns-2 c = says (stop 1 (at1 c.before.before) (omega tests))
 
-natural-requires-2 : tie.Need-natural-requires-2
+natural-requires-2 : tie.Need-natural-others-requires
 natural-requires-2 c κs = search rules
 
-returns-3 : tie.Need-returns-3
+returns-3 : tie.Need-returns-then-others-gt-MAX_BLUES
 unfolding param_rows
 returns-3 c = says (stop 2 (at2 c.before.before) (omega tests))
 
-natural-requires-3 : tie.Need-natural-requires-3
+natural-requires-3 : tie.Need-natural-family-requires
 natural-requires-3 c κs = search rules
 
-returns-4 : tie.Need-returns-4
+returns-4 : tie.Need-returns-then-family-gt-MAX_BLUES
 unfolding param_rows
 returns-4 c = says (stop 3 (at3 c.before.before) (omega tests))
 
-natural-requires-4 : tie.Need-natural-requires-4
+natural-requires-4 : tie.Need-natural-family_others-requires
 natural-requires-4 c κs = search rules
 
-returns-5 : tie.Need-returns-5
+returns-5 : tie.Need-returns-then-family_others-gt-MAX_BLUES
 unfolding param_rows
 returns-5 c = says (stop 4 (at4 c.before.before) (omega tests))
 
-natural-requires-5 : tie.Need-natural-requires-5
+natural-requires-5 : tie.Need-natural-requires
 natural-requires-5 c κs = search rules
 
-add-if6 : tie.Need-overflow-add-if6
+add-if6 : tie.Need-overflow_add-blues
 add-if6 c = search rules
 
-add-if6-2 : tie.Need-overflow-add-if6-2
+add-if6-2 : tie.Need-overflow_add-blues-2
 add-if6-2 c = search rules
 
-add-if6-3 : tie.Need-overflow-add-if6-3
+add-if6-3 : tie.Need-overflow_add-blues-3
 add-if6-3 c = search rules
 
-mul-if6 : tie.Need-overflow-mul-if6
+mul-if6 : tie.Need-overflow_mul-blues
 mul-if6 c = search rules
 
-add-if6-4 : tie.Need-overflow-add-if6-4
+add-if6-4 : tie.Need-overflow_add-blues-4
 add-if6-4 c = search rules
 
-returns-6 : tie.Need-returns-6
+returns-6 : tie.Need-returns-then-natural-blues
 unfolding param_rows
 returns-6 c = says (stop 5 (at5 c.before.before) (omega tests))
 
-returns-7 : tie.Need-returns-7
+returns-7 : tie.Need-returns
 unfolding param_rows first_or
 returns-7 c = says (sym (pass 5 (at5 c.before.before) (omega tests)).rest)
 
-pub check-params-spec : {M : Type 1} → statement M
-check-params-spec =
+pub check_params_spec : {M : Type 1} → statement M
+check_params_spec =
     tie.close
     (tie.spec
     number-requires

@@ -38,50 +38,50 @@ first_more w at n h =
     rw left (set_at (pairs_from w at n) no_blue _ (pair_at w (at + 2 * n)) n (pairs-length w at n) ∙
     sym (rw (add-one n, pairs-more w at n, append_assoc)))
 
-abbrev invariant-loop : tie.invariant-loop
+abbrev invariant-loop : tie.invariant-loop-i
 invariant-loop script at count pairs₀ i₀ pairs i = (pairs ≡ first (raw_at script) at i) × (i ≤ count)
 
-abbrev decreases-loop : tie.decreases-loop
+abbrev decreases-loop : tie.decreases-loop-i
 decreases-loop script at count pairs₀ i₀ pairs i = count - i
 
-loop-holds : tie.Need-loop-init invariant-loop decreases-loop
+loop-holds : tie.Need-loop-i-init invariant-loop decreases-loop
 unfolding pairs_from
 loop-holds c = (refl, search rules)
 
-mul-pair : tie.Need-overflow-mul-pair invariant-loop decreases-loop
+mul-pair : tie.Need-overflow_mul-i invariant-loop decreases-loop
 mul-pair c = search rules
 
-add-pair : tie.Need-overflow-add-pair invariant-loop decreases-loop
+add-pair : tie.Need-overflow_add-at invariant-loop decreases-loop
 add-pair c = search rules
 
 pair-requires : tie.Need-pair-requires invariant-loop decreases-loop
 pair-requires c κs = search rules
 
-mul-pairs : tie.Need-overflow-mul-pairs invariant-loop decreases-loop
+mul-pairs : tie.Need-offset_bounds-pairs-i invariant-loop decreases-loop
 mul-pairs c = search rules
 
-array-set-from-pairs : tie.Need-array-set-from-pairs invariant-loop decreases-loop
+array-set-from-pairs : tie.Need-bounds-pairs-i invariant-loop decreases-loop
 array-set-from-pairs c = search rules
 
-add-i : tie.Need-overflow-add-i invariant-loop decreases-loop
+add-i : tie.Need-overflow_step-i invariant-loop decreases-loop
 add-i c = search rules
 
-loop-less : tie.Need-loop-smaller invariant-loop decreases-loop
+loop-less : tie.Need-loop-i-smaller invariant-loop decreases-loop
 loop-less c = search rules
 
-loop-again : tie.Need-loop-preserved invariant-loop decreases-loop
+loop-again : tie.Need-loop-i-preserved invariant-loop decreases-loop
 loop-again c =
-    let at = c.before.before.loop in
+    let at = c.loop-i in
     (rw (c.pair.ensures, at.invariant.0) (first_more _ _ at.i (search rules)), search rules)
 
 returns : tie.Need-returns invariant-loop decreases-loop
 unfolding blues_at
 returns c =
-    let all : c.before.loop.i ≡ c.before.before.before.args.count = omega arith in
-    rw (c.before.loop.invariant.0, all)
+    let all : c.loop-i.i ≡ c.args.count = omega arith in
+    rw (c.loop-i.invariant.0, all)
 
-pub read-blues-spec : {M : Type 1} → statement M
-read-blues-spec =
+pub read_blues_spec : {M : Type 1} → statement M
+read_blues_spec =
     tie.close
     (tie.spec
     invariant-loop

@@ -13,12 +13,12 @@ returns c =
     let k = d.before.before.before in
     let l = k.before in
     let s = l.before.before.before in
-    d.draw-by-lines.ensures s.args.map refl
-    (listed-lines s.args.map _ _ _ (held-long s.args.map s.well-formed.0.1.1.0.1.0.1) l.list.ensures
-    k.least.ensures)
+    d.draw_by_lines.ensures s.args.map refl
+    (listed-lines s.args.map _ _ _ (held-long s.args.map s.well_formed.0.1.1.0.1.0.1) l.list.ensures
+    k.least-len.ensures)
 
-pub draw-spec : {M : Type 1} → statement M
-draw-spec =
+pub draw_spec : {M : Type 1} → statement M
+draw_spec =
     tie.close
     (tie.spec (λ c κs. search rules) (λ c κs. search rules) (λ c κs. search (rules, unknown)) (λ c. search rules)
     returns)

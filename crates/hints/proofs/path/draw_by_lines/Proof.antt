@@ -18,38 +18,38 @@ drawn-as : (m : HintMap) (s : Fixed) (from : Pen) {path asked : Path} {out left 
     path ≡ asked → Drew (stroke_by m s from asked) from out said left → Drew (stroke_by m s from path) from out said left
 drawn-as m s from e h = rw e h
 
-returns : tie.Need-returns
+returns : tie.Need-returns-in-Move
 returns c =
-    λ m e l. let p = c.before.before.before in
-    let w = p.before.before in
-    let a = w.before.before.args in
-    drawn-as m a.scale a.pen w.path.given.1 (rw (p.place.ensures m e l) at c.before.move-to.ensures)
+    λ m e l. let p = c in
+    let w = p in
+    let a = w.args in
+    drawn-as m a.scale a.pen w.in-Move.is (rw (p.place.ensures m e l) at c.move_to.ensures)
 
-returns-2 : tie.Need-returns-2
+returns-2 : tie.Need-returns-in-Line
 returns-2 c =
-    λ m e l. let p = c.before.before.before in
-    let w = p.before.before in
-    let a = w.before.before.args in
-    drawn-as m a.scale a.pen w.path2.given.1 (rw (p.place2.ensures m e l) at c.before.line-to.ensures)
+    λ m e l. let p = c in
+    let w = p in
+    let a = w.args in
+    drawn-as m a.scale a.pen w.in-Line.is (rw (p.place-in-Line.ensures m e l) at c.line_to.ensures)
 
-returns-3 : tie.Need-returns-3
+returns-3 : tie.Need-returns-in-Curve
 returns-3 c =
-    λ m e l. let p = c.before.before.before in
-    let q = p.before.before in
-    let w = q.before.before in
-    let a = w.before.before.args in
-    drawn-as m a.scale a.pen w.path3.given.1
-    (rw (p.place5.ensures m e l, p.before.place4.ensures m e l, q.place3.ensures m e l) at
-    c.before.curve-to.ensures)
+    λ m e l. let p = c in
+    let q = p in
+    let w = q in
+    let a = w.args in
+    drawn-as m a.scale a.pen w.in-Curve.is
+    (rw (p.place-in-Curve-3.ensures m e l, p.place-in-Curve-2.ensures m e l, q.place-in-Curve.ensures m e l) at
+    c.curve_to.ensures)
 
-returns-4 : tie.Need-returns-4
+returns-4 : tie.Need-returns-in-Finish
 returns-4 c =
-    λ m e l. let w = c.before.before.before in
-    let a = w.before.before.args in
-    drawn-as m a.scale a.pen w.enum_told.given.1 c.before.finish.ensures
+    λ m e l. let w = c in
+    let a = w.args in
+    drawn-as m a.scale a.pen w.in-Finish.is c.finish.ensures
 
-pub draw-by-lines-spec : {M : Type 1} → statement M
-draw-by-lines-spec =
+pub draw_by_lines_spec : {M : Type 1} → statement M
+draw_by_lines_spec =
     tie.close
     (tie.spec (λ c. search rules) (λ c κs. search rules) (λ c κs. search rules) (λ c. search rules)
     (λ c κs. search rules) (λ c κs. search rules) (λ c. search rules) (λ c κs. search rules) (λ c κs. search rules)

@@ -10,15 +10,15 @@ unfolding device_point
 returns c =
     λ m e l. let t = c.before.before in
     rw (
-      c.trunc2.ensures,
-      c.before.transform.ensures l.tags,
+      c.trunc-2.ensures,
+      c.transform.ensures l.tags,
       t.trunc.ensures,
-      t.before.mul.ensures,
+      t.mul.ensures,
       l.edges,
       e,
     )
 
-pub place-spec : {M : Type 1} → statement M
-place-spec =
+pub place_spec : {M : Type 1} → statement M
+place_spec =
     tie.close
     (tie.spec (λ c κs. search rules) (λ c κs. search rules) (λ c κs. search rules) (λ c κs. search rules) returns)

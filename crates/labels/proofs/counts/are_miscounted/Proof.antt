@@ -11,39 +11,39 @@ use Rattle.labels.specs.Glyphs.{any_negative, every_other, total, miscounted}
 use Rattle.labels.proofs.counts.are_miscounted.Statement.{statement}
 use Rattle.labels.proofs.counts.are_miscounted.Tie as tie
 
-returns : tie.Need-returns
+returns : tie.Need-returns-then-lengths-gt-MAX_LENGTHS
 unfolding miscounted
-returns c = rw (lt-ltb 128 _ c.if1.true)
+returns c = rw (lt-ltb 128 _ c.if-lengths-gt-MAX_LENGTHS.true)
 
-returns-2 : tie.Need-returns-2
+returns-2 : tie.Need-returns-then-lengths-eq1
 unfolding miscounted
-returns-2 c = rw (le-ltb 128 _ c.before.if1.false, eq-eqb _ 1 c.if2.true)
+returns-2 c = rw (le-ltb 128 _ c.if-lengths-gt-MAX_LENGTHS.false, eq-eqb _ 1 c.if-lengths-eq1.true)
 
 -- after three tests that do not hold
-module _ (c : tie.Else3) where
+module _ (c : tie.Else-any_negative) where
   abbrev start : tie.Start
   start = c.before.before.before.before
 
   few : ltb 128 (length start.args.lengths.now) ≡ false
-  few = le-ltb 128 _ c.before.before.before.if1.false
+  few = le-ltb 128 _ c.if-lengths-gt-MAX_LENGTHS.false
 
   even : eqb (length start.args.lengths.now % 2) 1 ≡ false
-  even = ne_eqb _ 1 c.before.before.if2.false
+  even = ne_eqb _ 1 c.if-lengths-eq1.false
 
   positive : any_negative start.args.lengths.now ≡ false
-  positive = sym c.before.any-negative.ensures ∙ c.if3.false
+  positive = sym c.any_negative.ensures ∙ c.if-any_negative.false
 
-returns-3 : tie.Need-returns-3
+returns-3 : tie.Need-returns-then-any_negative
 unfolding miscounted
 returns-3 c =
-    let ls = c.before.before.before.before.args.lengths.now in
+    let ls = c.args.lengths.now in
     rw (
-      le-ltb 128 (length ls) c.before.before.before.if1.false,
-      ne_eqb (length ls % 2) 1 c.before.before.if2.false,
-      sym c.before.any-negative.ensures ∙ c.if3.true,
+      le-ltb 128 (length ls) c.if-lengths-gt-MAX_LENGTHS.false,
+      ne_eqb (length ls % 2) 1 c.if-lengths-eq1.false,
+      sym c.any_negative.ensures ∙ c.if-any_negative.true,
     )
 
-returns-4 : tie.Need-returns-4
+returns-4 : tie.Need-returns-then-sum_from-words
 unfolding miscounted
 returns-4 c =
     let e = c.before.before in
@@ -52,10 +52,10 @@ returns-4 c =
       few e,
       even e,
       positive e,
-      ne_eqb (total (every_other a.lengths.now)) a.words (λ q. c.if4.true (c.before.sum-from.ensures ∙ q)),
+      ne_eqb (total (every_other a.lengths.now)) a.words (λ q. c.if-sum_from-words.true (c.sum_from.ensures ∙ q)),
     )
 
-returns-5 : tie.Need-returns-5
+returns-5 : tie.Need-returns
 unfolding miscounted
 returns-5 c =
     let f = c.before in
@@ -65,12 +65,12 @@ returns-5 c =
       few e,
       even e,
       positive e,
-      eq-eqb (total (every_other a.lengths.now)) a.words (sym f.before.sum-from.ensures ∙ f.if4.false),
-      c.sum-from2.ensures,
+      eq-eqb (total (every_other a.lengths.now)) a.words (sym f.sum_from.ensures ∙ f.if-sum_from-words.false),
+      c.sum_from-2.ensures,
     )
 
-pub are-miscounted-spec : {M : Type 1} → statement M
-are-miscounted-spec =
+pub are_miscounted_spec : {M : Type 1} → statement M
+are_miscounted_spec =
     tie.close
     (tie.spec returns returns-2 (λ c κs. search rules) returns-3 (λ c κs. search rules) returns-4
     (λ c κs. search rules) returns-5)

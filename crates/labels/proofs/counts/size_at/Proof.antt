@@ -24,13 +24,13 @@ sign (negsuc n) h = sym (le-leb 2147483648 (4294967296 - suc (n % 4294967296)) (
 
 returns : tie.Need-returns
 returns c =
-    let a = c.before.before.args in
+    let a = c.args in
     let z = get_or a.lengths.now a.i (pos 0) in
     let f : SFits w32 z = search rules in
     let e : c.bits_of.result ≡ bits_of z = c.bits_of.ensures ∙ ap bits_of (to_z-of_z f) in
     (e, (omega (arith, e, low-lt 32 z), sign z f ∙ ap negative (sym e)))
 
-pub size-at-spec : {M : Type 1} → statement M
-size-at-spec =
+pub size_at_spec : {M : Type 1} → statement M
+size_at_spec =
     tie.close
     (tie.spec (λ c. search rules) (λ c. search rules) (λ c κs. search rules) (λ c. search rules) returns)

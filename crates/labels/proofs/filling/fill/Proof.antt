@@ -21,137 +21,137 @@ use Rattle.labels.proofs.Filled.{size_is, Filling, filling, laid-result, filled,
 use Rattle.labels.proofs.filling.fill.Statement.{statement}
 use Rattle.labels.proofs.filling.fill.Tie as tie
 
-abbrev invariant-loop : tie.invariant-loop
+abbrev invariant-loop : tie.invariant-loop-at
 invariant-loop commands masks lengths out₀ zones gauge stems₀ initial₀ map₀ tags₀ notes₀ next₀ at₀ word₀ byte₀ out stems
     initial map tags notes next at word byte =
     Filling lengths commands masks (state_in gauge zones) out₀ next at word byte out ×
     Spare stems initial map tags notes
 
-abbrev decreases-loop : tie.decreases-loop
+abbrev decreases-loop : tie.decreases-loop-at
 decreases-loop commands masks lengths out₀ zones gauge stems₀ initial₀ map₀ tags₀ notes₀ next₀ at₀ word₀ byte₀ out stems
     initial map tags notes next at word byte =
     length lengths - at
 
 -- the numbers and the list of zones that glyphs are lent
-abbrev lent-state : tie.After-gauge invariant-loop decreases-loop → HintState
-lent-state g = state_in g.gauge.result g.before.list.last.1.0
+abbrev lent-state : tie.After-gauge-gauge invariant-loop decreases-loop → HintState
+lent-state g = state_in g.gauge-gauge.result g.list.last.1.0
 
-put-two-requires : tie.Need-put-two-requires invariant-loop decreases-loop
+put-two-requires : tie.Need-put_two-requires invariant-loop decreases-loop
 put-two-requires c κs =
-    let s = c.before.before.before.before.before in
+    let s = c in
     let gs = glyphs_of s.args.lengths.now s.args.commands.now s.args.masks.now in
     let w = walk s.args.lengths.now s.args.commands.now s.args.masks.now s.requires.counted in
     let least = sum-least (header_of (length gs)) (map size_of gs) in
     (omega (arith, s.requires.fits), (omega arith, omega (arith, w.few)))
 
-loop-holds : tie.Need-loop-init invariant-loop decreases-loop
+loop-holds : tie.Need-loop-at-init invariant-loop decreases-loop
 loop-holds c =
-    let s = c.before.before.before.before.before.before.before in
+    let s = c in
     let a = s.args in (
       filling a.lengths.now a.commands.now a.masks.now (lent-state c.before.before.before)
-          c.before.put_two.new.0 (rw c.before.put_two.auto.0 s.requires),
+          c.put_two.new.0 (rw c.put_two.auto.0 s.requires),
       record { long = refl; whole = record { all = refl; named = refl }; current = refl; notes = refl },
     )
 
 -- at a glyph, whose two lengths are read
-module _ (c : tie.After-size-at2 invariant-loop decreases-loop) where
-  abbrev turn : tie.At-loop invariant-loop decreases-loop
+module _ (c : tie.After-size_at-in-loop-at invariant-loop decreases-loop) where
+  abbrev turn : tie.At-loop-at invariant-loop decreases-loop
   turn = c.before.before.before
 
   abbrev begin : tie.Start invariant-loop decreases-loop
   begin = turn.before.before.before.before.before.before.before.before
 
-  there : turn.loop.at < length begin.args.lengths.now
-  there = c.before.before.loop-test.true
+  there : turn.loop-at.at < length begin.args.lengths.now
+  there = c.loop-at-test.true
 
-  inside : (turn.loop.word + c.before.size-at.result ≤ length begin.args.commands.now) ×
-      (turn.loop.byte + c.size-at2.result ≤ length begin.args.masks.now)
+  inside : (turn.loop-at.word + c.size_at.result ≤ length begin.args.commands.now) ×
+      (turn.loop-at.byte + c.size_at-in-loop-at.result ≤ length begin.args.masks.now)
   inside =
-      let w = turn.loop.inv.0.walks in
-      let n = c.before.size-at.ensures.0 in
-      let b = c.size-at2.ensures.0 in
+      let w = turn.loop-at.invariant.0.walks in
+      let n = c.size_at.ensures.0 in
+      let b = c.size_at-in-loop-at.ensures.0 in
       (words-there w there n b, bytes-there w there n b)
 
   abbrev here : Glyph
   here =
-      glyph (take c.before.size-at.result (drop turn.loop.word begin.args.commands.now))
-      (take c.size-at2.result (drop turn.loop.byte begin.args.masks.now))
+      glyph (take c.size_at.result (drop turn.loop-at.word begin.args.commands.now))
+      (take c.size_at-in-loop-at.result (drop turn.loop-at.byte begin.args.masks.now))
 
-  ready : Settable here (2 + turn.loop.at) turn.loop.next (length turn.loop.out)
+  ready : Settable here (2 + turn.loop-at.at) turn.loop-at.next (length turn.loop-at.out)
   ready =
-      let m = turn.loop.inv.0 in
-      let n = c.before.size-at.ensures in
-      settable m there n.0 c.size-at2.ensures.0
+      let m = turn.loop-at.invariant.0 in
+      let n = c.size_at.ensures in
+      settable m there n.0 c.size_at-in-loop-at.ensures.0
       (leb-false 2147483648 _ (sym n.1.1 ∙ (first-positive m.walks there).0))
 
   -- what is lent is the glyph
-  lent : let w = turn.loop.word in
-      let b = turn.loop.byte in
-      glyph (take (w + c.before.size-at.result - w) (drop w begin.args.commands.now))
-      (take (b + c.size-at2.result - b) (drop b begin.args.masks.now)) ≡ here
+  lent : let w = turn.loop-at.word in
+      let b = turn.loop-at.byte in
+      glyph (take (w + c.size_at.result - w) (drop w begin.args.commands.now))
+      (take (b + c.size_at-in-loop-at.result - b) (drop b begin.args.masks.now)) ≡ here
   lent =
-      lent-glyph begin.args.commands.now begin.args.masks.now turn.loop.word c.before.size-at.result
-      turn.loop.byte c.size-at2.result
+      lent-glyph begin.args.commands.now begin.args.masks.now turn.loop-at.word c.size_at.result
+      turn.loop-at.byte c.size_at-in-loop-at.result
 
-add-words-end : tie.Need-overflow-add-words-end invariant-loop decreases-loop
+add-words-end : tie.Need-overflow_add-words_end invariant-loop decreases-loop
 add-words-end c =
-    let t = c.before.before in
-    let s = t.before.before.before.before.before.before.before.before in
-    omega (arith, s.well-formed.0, t.loop.invariant.0.walks.of_words, c.size-at.ensures.1.0)
+    let t = c in
+    let s = t in
+    omega (arith, s.well_formed.0, t.loop-at.invariant.0.walks.of_words, c.size_at.ensures.1.0)
 
-add-bytes-end : tie.Need-overflow-add-bytes-end invariant-loop decreases-loop
-add-bytes-end c = omega (arith, (begin c).well-formed.1.0, (turn c).loop.invariant.0.walks.of_bytes, c.size-at2.ensures.1.0)
+add-bytes-end : tie.Need-overflow_add-bytes_end invariant-loop decreases-loop
+add-bytes-end c = omega (arith, (begin c).well_formed.1.0, (turn c).loop-at.invariant.0.walks.of_bytes, c.size_at-in-loop-at.ensures.1.0)
 
-fill-glyph-requires : tie.Need-fill-glyph-requires invariant-loop decreases-loop
+fill-glyph-requires : tie.Need-fill_glyph-words-requires invariant-loop decreases-loop
 fill-glyph-requires c κs =
     let l = c.before.before.before.before.before.before.before.before.before in
-    let t = (turn l).loop in
-    (subst (λ (g : Glyph). Settable g (2 + t.at) t.next (length t.out)) (sym (lent l)) (ready l), t.inv.1)
+    let t = (turn l).loop-at in
+    (subst (λ (g : Glyph). Settable g (2 + t.at) t.next (length t.out)) (sym (lent l)) (ready l), t.invariant.1)
 
 -- the glyph is set
-module _ (c : tie.After-fill-glyph invariant-loop decreases-loop) where
-  abbrev lengths : tie.After-size-at2 invariant-loop decreases-loop
+module _ (c : tie.After-fill_glyph-words invariant-loop decreases-loop) where
+  abbrev lengths : tie.After-size_at-in-loop-at invariant-loop decreases-loop
   lengths = c.before.before.before.before.before.before.before.before.before.before
 
   abbrev Set : Glyph → Type 0
   Set g =
-      GlyphSet (lent-state (turn lengths).before.before.before.before) g (2 + (turn lengths).loop.at)
-      (turn lengths).loop.next (turn lengths).loop.out c.fill-glyph.result
-      c.fill-glyph.new.1.1.1.1.1.1.1.1.1.0
+      GlyphSet (lent-state (turn lengths).before.before.before.before) g (2 + (turn lengths).loop-at.at)
+      (turn lengths).loop-at.next (turn lengths).loop-at.out c.fill_glyph-words.result
+      c.fill_glyph-words.new.1.1.1.1.1.1.1.1.1.0
 
   set : Set (here lengths)
-  set = subst Set (lent lengths) c.fill-glyph.ensures.0
+  set = subst Set (lent lengths) c.fill_glyph-words.ensures.0
 
-add-next-2 : tie.Need-overflow-add-next-2 invariant-loop decreases-loop
+add-next-2 : tie.Need-overflow_add-next-in-loop-at invariant-loop decreases-loop
 add-next-2 c =
     let l = lengths c.before in
     let st = lent-state (turn l).before.before.before.before in
     omega (arith, (ready l).word, (set c.before).size, size_is st (here l))
 
-loop-again : tie.Need-loop-preserved invariant-loop decreases-loop
+loop-again : tie.Need-loop-at-preserved invariant-loop decreases-loop
 loop-again c =
     let g = c.before in
     let l = lengths g in
-    let n = l.before.size-at.ensures.0 in
-    let b = l.size-at2.ensures.0 in (
-      rw (set g).memory (onward-filling (turn l).loop.inv.0 (there l) n b (set g).size),
-      g.fill-glyph.ensures.1,
+    let n = l.size_at.ensures.0 in
+    let b = l.size_at-in-loop-at.ensures.0 in (
+      rw (set g).memory (onward-filling (turn l).loop-at.invariant.0 (there l) n b (set g).size),
+      g.fill_glyph-words.ensures.1,
     )
 
-same_length : tie.Need-same-length invariant-loop decreases-loop
-same_length c = c.before.loop.invariant.0.same ∙ c.before.before.before.put_two.auto.0
+same_length : tie.Need-shape_of-out invariant-loop decreases-loop
+same_length c = c.loop-at.invariant.0.same ∙ c.put_two.auto.0
 
 returns : tie.Need-returns invariant-loop decreases-loop
 returns c =
-    let p = c.before.before.before in
-    let g = p.before.before in
-    let s = g.before.before.before.before in
+    let p = c in
+    let g = p in
+    let s = g in
     let a = s.args in
     let gs = glyphs_of a.lengths.now a.commands.now a.masks.now in
     let m = 2 + length a.lengths.now in
-    filled c.before.loop.invariant.0 (omega arith) ∙
+    filled c.loop-at.invariant.0 (omega arith) ∙
     ap (λ (st : HintState). laid_from 2 m (map (records_of st) gs) p.put_two.new.0)
-    (state-is a.state _ _ g.gauge.ensures g.before.list.ensures) ∙
+    (state-is a.state _ _ g.gauge-gauge.ensures g.list.ensures) ∙
     ap (laid_from 2 m (map (records_of a.state) gs)) p.put_two.ensures ∙
     laid-result a.lengths.now a.commands.now a.masks.now a.state a.out.now s.requires
 
@@ -159,8 +159,8 @@ pub fill_spec : {M : Type 1} → statement M
 fill_spec =
     tie.close
     (tie.spec invariant-loop decreases-loop (λ c κs. search rules) (λ c κs. search rules) put-two-requires (λ c. search rules)
-    loop-holds (λ c κs. c.loop-test.true) add-words-end (λ c. search rules)
-    (λ c κs. both-there c.before.before.loop.invariant.0.walks c.before.loop-test.true) add-bytes-end
+    loop-holds (λ c κs. c.loop-at-test.true) add-words-end (λ c. search rules)
+    (λ c κs. both-there c.loop-at.invariant.0.walks c.loop-at-test.true) add-bytes-end
     (λ c. omega arith) (λ c. omega arith) (λ c. (inside c).1) (λ c. search rules) (λ c. omega arith) (λ c. omega arith)
     (λ c. (inside c.before).0) (λ c. search rules) fill-glyph-requires add-next-2 (λ c. search rules)
     (λ c. omega arith) loop-again same_length returns)

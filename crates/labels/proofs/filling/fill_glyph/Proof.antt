@@ -19,7 +19,7 @@ use Rattle.labels.proofs.filling.fill_glyph.Statement.{statement}
 use Rattle.labels.proofs.filling.fill_glyph.Tie as tie
 
 -- the run has room for all of the glyph's records
-module _ (c : tie.After-run-given) where
+module _ (c : tie.After-run_given-ran) where
   abbrev begin : tie.Start
   begin = c.before.before.before.before.before.before.before.before
 
@@ -35,23 +35,23 @@ module _ (c : tie.After-run-given) where
   abbrev next : ℕ
   next = begin.args.next
 
-  ran : (c.run-given.result.words ≡ length (records_of state given)) ×
-      (put_mid next (length out - next) out c.run-given.new.1.1.1.1.1.1.1.1.1.0 ≡
+  ran : (c.run_given-ran.result.words ≡ length (records_of state given)) ×
+      (put_mid next (length out - next) out c.run_given-ran.new.1.1.1.1.1.1.1.1.1.0 ≡
       placed out next (records_of state given))
   ran =
-      let r = ran-whole state given out next begin.pre.0.fits
-      (rw (lent out next) at c.run-given.ensures.0) in
+      let r = ran-whole state given out next begin.requires.0.fits
+      (rw (lent out next) at c.run_given-ran.ensures.0) in
       (r.0, back next out _ ∙ r.1)
 
 -- the records start within the output
-inside : (c : tie.After-run-given-arg5) →
-    let a = c.before.before.before.before.before.before.args in a.next ≤ length a.out.now
-inside c = omega (arith, c.before.before.before.before.before.before.requires.0.fits)
+inside : (c : tie.After-run_given-arg-5-1) →
+    let a = c.args in a.next ≤ length a.out.now
+inside c = omega (arith, c.requires.0.fits)
 
-run-given-requires : tie.Need-run-given-requires
+run-given-requires : tie.Need-run_given-ran-requires
 unfolding fault_of
 run-given-requires c κs =
-    let s = c.before.before.before.before.before.before.before in (
+    let s = c in (
       record {
         short = s.requires.0.short;
         start = omega arith;
@@ -62,7 +62,7 @@ run-given-requires c κs =
       s.requires.1,
     )
 
-put-two-requires : tie.Need-put-two-requires
+put-two-requires : tie.Need-put_two-requires
 put-two-requires c κs =
     let r = c.before.before in
     let p = (begin r).requires.0 in
@@ -72,27 +72,27 @@ put-two-requires c κs =
       (omega (arith, p.word), omega (arith, (ran r).0, n, p.word)),
     )
 
-same_length : tie.Need-same-length
+same_length : tie.Need-shape_of-out
 same_length c =
-    let t = c.before in
-    let r = t.before.before.before in
+    let t = c in
+    let r = t.before.before.before.before in
     t.put_two.auto.0 ∙
-    same_len_mid (next r) (length (out r) - next r) (out r) r.run-given.new.1.1.1.1.1.1.1.1.1.0
-    r.run-given.auto.1.1.1.1.1.1.1.1.1.0
+    same_len_mid (next r) (length (out r) - next r) (out r) r.run_given-ran.new.1.1.1.1.1.1.1.1.1.0
+    r.run_given-ran.auto.1.1.1.1.1.1.1.1.1.0
 
 returns : tie.Need-returns
 returns c =
-    let t = c.before in
-    let r = t.before.before.before in
+    let t = c in
+    let r = t.before.before.before.before in
     let e = t.put_two.ensures ∙
-    ap (λ (l : List ℤ). placed l (begin r).args.slot (pos (next r) ∷ pos r.run-given.result.words ∷ []))
+    ap (λ (l : List ℤ). placed l (begin r).args.slot (pos (next r) ∷ pos r.run_given-ran.result.words ∷ []))
     (ran r).1 ∙
     ap (λ (k : ℕ). placed (placed (out r) (next r) (records_of (state r) (given r)))
     (begin r).args.slot (pos (next r) ∷ pos k ∷ [])) (ran r).0 in
-    (record { size = (ran r).0; memory = e }, r.run-given.ensures.1)
+    (record { size = (ran r).0; memory = e }, r.run_given-ran.ensures.1)
 
-pub fill-glyph-spec : {M : Type 1} → statement M
-fill-glyph-spec =
+pub fill_glyph_spec : {M : Type 1} → statement M
+fill_glyph_spec =
     tie.close
     (tie.spec (λ c. search rules) inside inside (λ c. search rules) run-given-requires put-two-requires same_length
     returns)

@@ -15,30 +15,30 @@ use Rattle.labels.proofs.labelling.check_numbers.Statement.{statement}
 use Rattle.labels.proofs.labelling.check_numbers.Tie as tie
 
 -- the scale is a number of 32 bits
-fits : (c : tie.After-struct-told) → SFits w32 c.before.before.args.scale.bits
+fits : (c : tie.After-struct_told-1) → SFits w32 c.args.scale.bits
 fits c = search rules
 
-scaled : (c : tie.Else1) → less_f c.before.before.before.args.scale (from_bits (pos 1)) ≡ false
-scaled c = rw (to_z-of_z (fits c.before)) at c.if1.false
+scaled : (c : tie.Else-scale-lt1) → less_f c.args.scale (from_bits (pos 1)) ≡ false
+scaled c = rw (to_z-of_z (fits c.before)) at c.if-scale-lt1.false
 
-returns : tie.Need-returns
+returns : tie.Need-returns-then-scale-lt1
 unfolding open_rows first_or
 returns c =
-    let e : less_f c.before.before.before.args.scale (from_bits (pos 1)) ≡
-    true = rw (to_z-of_z (fits c.before)) at c.if1.true in
+    let e : less_f c.args.scale (from_bits (pos 1)) ≡
+    true = rw (to_z-of_z (fits c.before)) at c.if-scale-lt1.true in
     rw e
 
-returns-2 : tie.Need-returns-2
+returns-2 : tie.Need-returns-then-not-counts_fit
 unfolding open_rows first_or
 returns-2 c =
     let f = c.before in
-    rw (scaled f.before, sym f.counts-fit.ensures ∙ not-true f.counts-fit.result c.if2.true)
+    rw (scaled f.before, sym f.counts_fit.ensures ∙ c.if-not-counts_fit.true)
 
-returns-3 : tie.Need-returns-3
+returns-3 : tie.Need-returns
 unfolding open_rows first_or
 returns-3 c =
     let f = c.before in
-    rw (scaled f.before, sym f.counts-fit.ensures ∙ not-false f.counts-fit.result c.if2.false)
+    rw (scaled f.before, sym f.counts_fit.ensures ∙ c.if-not-counts_fit.false)
 
-pub check-numbers-spec : {M : Type 1} → statement M
-check-numbers-spec = tie.close (tie.spec returns (λ c κs. search rules) returns-2 returns-3)
+pub check_numbers_spec : {M : Type 1} → statement M
+check_numbers_spec = tie.close (tie.spec returns (λ c κs. search rules) returns-2 returns-3)

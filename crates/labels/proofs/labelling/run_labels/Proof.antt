@@ -32,27 +32,27 @@ module _ (s : tie.Start) where
       label s.args.scale s.args.params s.args.commands.now s.args.masks.now s.args.lengths.now
 
 -- the lengths are counted
-miscount : (c : tie.After-check-numbers) → let a = c.before.before.before.before.args in
+miscount : (c : tie.After-check_numbers-opened) → let a = c.args in
     miscounted a.lengths.now (length a.commands.now) (length a.masks.now) ≡ false
-miscount c = sym c.before.before.are-miscounted.ensures ∙ c.before.if1.false
+miscount c = sym c.are_miscounted.ensures ∙ c.if-are_miscounted.false
 
-returns : tie.Need-returns
+returns : tie.Need-returns-then-are_miscounted
 returns c =
     let s = c.before.before.before in
-    let e = sym c.before.are-miscounted.ensures ∙ c.if1.true in
+    let e = sym c.are_miscounted.ensures ∙ c.if-are_miscounted.true in
     labelled-nothing (given s) s.args.out.now (sym (by_count (given s) _ e)) (omega arith)
 
-returns-2 : tie.Need-returns-2
+returns-2 : tie.Need-returns-then-code-ne0
 returns-2 c =
     let n = c.before.before in
     let s = n.before.before.before.before in
     let l = given s in
-    let h : 0 < label_number n.check-numbers.result = omega (arith, c.if2.true, c.before.code.ensures) in
+    let h : 0 < label_number n.check_numbers-opened.result = omega (arith, c.if-code-ne0.true, c.code.ensures) in
     labelled-nothing l s.args.out.now
-    (sym (by-numbers l (room_in s.args.out.now) (miscount n) n.check-numbers.ensures h)) h
+    (sym (by-numbers l (room_in s.args.out.now) (miscount n) n.check_numbers-opened.ensures h)) h
 
 -- scale and counts are fine
-module _ (c : tie.Else2) where
+module _ (c : tie.Else-code-ne0) where
   abbrev start : tie.Start
   start = c.before.before.before.before.before.before
 
@@ -61,39 +61,39 @@ module _ (c : tie.Else2) where
   opened =
       let n = c.before.before in
       open-fine start.args.scale start.args.params
-      (ap label_number (sym n.check-numbers.ensures) ∙ sym c.before.code.ensures ∙ c.if2.false)
+      (ap label_number (sym n.check_numbers-opened.ensures) ∙ sym c.code.ensures ∙ c.if-code-ne0.false)
 
-measure-requires : tie.Need-measure-requires
+measure-requires : tie.Need-measure-measured-requires
 measure-requires c κs =
     let n = (room_within (length (start c.before).args.out.now)).1 in
     (miscount c.before.before.before, omega (arith, c.least.ensures, n))
 
 -- glyphs and room are measured
-module _ (c : tie.After-code2) where
-  abbrev fine : tie.Else2
+module _ (c : tie.After-code-2) where
+  abbrev fine : tie.Else-code-ne0
   fine = c.before.before.before
 
   abbrev out : List ℤ
   out = (start fine).args.out.now
 
-  measured : c.before.measure.result ≡ measured_of (glyphs_in (given (start fine))) (room_in out)
+  measured : c.measure-measured.result ≡ measured_of (glyphs_in (given (start fine))) (room_in out)
   measured =
-      c.before.measure.ensures ∙ ap (measured_of (glyphs_in (given (start fine)))) c.before.before.least.ensures
+      c.measure-measured.ensures ∙ ap (measured_of (glyphs_in (given (start fine)))) c.least.ensures
 
-  answered : c.before.measure.result ≡ label_answer (given (start fine)) (room_in out)
+  answered : c.measure-measured.result ≡ label_answer (given (start fine)) (room_in out)
   answered =
       measured ∙
       sym (by-measure (given (start fine)) (room_in out) (miscount fine.before.before) (opened fine).0)
 
-returns-3 : tie.Need-returns-3
+returns-3 : tie.Need-returns-then-code-ne0-2
 returns-3 c =
     let m = c.before in
-    labelled-nothing (given (start (fine m))) (out m) (answered m) (omega (arith, c.if3.true, m.code2.ensures))
+    labelled-nothing (given (start (fine m))) (out m) (answered m) (omega (arith, c.if-code-ne0-2.true, m.code-2.ensures))
 
 -- and nothing is refused
-module _ (c : tie.Else3) where
-  accepted : label_number c.before.before.measure.result ≡ 0
-  accepted = sym c.before.code2.ensures ∙ c.if3.false
+module _ (c : tie.Else-code-ne0-2) where
+  accepted : label_number c.measure-measured.result ≡ 0
+  accepted = sym c.code-2.ensures ∙ c.if-code-ne0-2.false
 
 fill-requires : tie.Need-fill-requires
 fill-requires c κs =
@@ -108,7 +108,7 @@ fill-requires c κs =
       word = omega (arith, f.1, (room_within (length (out m))).1);
     }
 
-returns-4 : tie.Need-returns-4
+returns-4 : tie.Need-returns
 unfolding records_in
 returns-4 c =
     let f = c.before in
@@ -120,8 +120,8 @@ returns-4 c =
     (◌∙◌ {b = written (label_words (map (records_of n.new.result) (glyphs_in l))) (out m)} f.fill.ensures
     (ap (λ (st : HintState). written (label_words (map (records_of st) (glyphs_in l))) (out m)) n.new.ensures))
 
-pub run-labels-spec : {M : Type 1} → statement M
-run-labels-spec =
+pub run_labels_spec : {M : Type 1} → statement M
+run_labels_spec =
     tie.close
     (tie.spec (λ c κs. search rules) returns (λ c κs. search rules) (λ c κs. search rules) returns-2
     (λ c κs. search rules) measure-requires (λ c κs. search rules) returns-3

@@ -18,16 +18,16 @@ use Rattle.labels.proofs.Surveys.{Surveying, surveying, stopped, passed_on, draw
 use Rattle.labels.proofs.survey.survey.Statement.{statement}
 use Rattle.labels.proofs.survey.survey.Tie as tie
 
-abbrev invariant-loop : tie.invariant-loop
+abbrev invariant-loop : tie.invariant-loop-at
 invariant-loop words masks bytes trail₀ count₀ at₀ trail count at =
     Surveying (glyph words masks) trail count at × (count ≤ 10 * length words)
 
-abbrev decreases-loop : tie.decreases-loop
+abbrev decreases-loop : tie.decreases-loop-at
 decreases-loop words masks bytes trail₀ count₀ at₀ trail count at = length words - at
 
 -- the command that was read, its fault and the word behind it
-module _ (c : tie.After-fault-in invariant-loop decreases-loop) where
-  abbrev turn : tie.At-loop invariant-loop decreases-loop
+module _ (c : tie.After-fault_in-fault invariant-loop decreases-loop) where
+  abbrev turn : tie.At-loop-at invariant-loop decreases-loop
   turn = c.before.before.before
 
   abbrev begin : tie.Start invariant-loop decreases-loop
@@ -36,85 +36,85 @@ module _ (c : tie.After-fault-in invariant-loop decreases-loop) where
   abbrev word : ℕ → ℕ
   word = given_word begin.args.words.now
 
-  there : turn.loop.at < length begin.args.words.now
-  there = c.before.before.loop-test.true
+  there : turn.loop-at.at < length begin.args.words.now
+  there = c.loop-at-test.true
 
-  module _ {k : Command} (e : c.before.read-given.result.command ≡ k) where
-    read : (read_at word (length begin.args.words.now) turn.loop.at).command ≡ k
-    read = sym (ap (λ (r : Read). r.command) c.before.read-given.ensures) ∙ e
+  module _ {k : Command} (e : c.read_given-read.result.command ≡ k) where
+    read : (read_at word (length begin.args.words.now) turn.loop-at.at).command ≡ k
+    read = sym (ap (λ (r : Read). r.command) c.read_given-read.ensures) ∙ e
 
-    fault : c.fault-in.result ≡ first_of (fault_rows (length begin.args.masks.now) turn.loop.at k)
-    fault = rw e at c.fault-in.ensures
+    fault : c.fault_in-fault.result ≡ first_of (fault_rows (length begin.args.masks.now) turn.loop-at.at k)
+    fault = rw e at c.fault_in-fault.ensures
 
-  moved : c.before.read-given.result.next ≡ next_at word turn.loop.at
-  moved = ap (λ (r : Read). r.next) c.before.read-given.ensures ∙ next-is _ _ _
+  moved : c.read_given-read.result.next ≡ next_at word turn.loop-at.at
+  moved = ap (λ (r : Read). r.next) c.read_given-read.ensures ∙ next-is _ _ _
 
-loop-holds : tie.Need-loop-init invariant-loop decreases-loop
+loop-holds : tie.Need-loop-at-init invariant-loop decreases-loop
 loop-holds c =
-    let a = c.before.before.args in
+    let a = c.args in
     let g = glyph a.words.now a.masks.now in
-    (subst (λ (t : Trail). Surveying g t 0 0) (sym c.new.ensures) (surveying g), omega arith)
+    (subst (λ (t : Trail). Surveying g t 0 0) (sym c.new-trail.ensures) (surveying g), omega arith)
 
-returns : tie.Need-returns invariant-loop decreases-loop
+returns : tie.Need-returns-then-code-ne0 invariant-loop decreases-loop
 returns c =
     let f = c.before.before in (
-      stopped (turn f).loop.invariant.0 (there f) (read f refl) (fault f refl)
-          (λ z. c.if1.true (c.before.code.ensures ∙ z)),
+      stopped (turn f).loop-at.invariant.0 (there f) (read f refl) (fault f refl)
+          (λ z. c.if-code-ne0.true (c.code.ensures ∙ z)),
       omega arith,
     )
 
-loop-less : tie.Need-loop-smaller invariant-loop decreases-loop
+loop-less : tie.Need-loop-at-smaller-in_default invariant-loop decreases-loop
 loop-less c =
-    let f = c.before.before.before.before in
+    let f = c.before.before.before in
     omega (arith, moved f, there f)
 
-loop-again : tie.Need-loop-preserved invariant-loop decreases-loop
+loop-again : tie.Need-loop-at-preserved-in_default invariant-loop decreases-loop
 loop-again c =
-    let e = c.before.before in
-    let f = e.before.before in
-    let k = c.enum_told.given.1 in
-    let z = sym e.before.code.ensures ∙ e.if1.false in (
-      rw (moved f) (passed_on (turn f).loop.invariant.0 (there f) (read f k) (fault f k) z),
-      (turn f).loop.invariant.1,
+    let e = c in
+    let f = e.before.before.before in
+    let k = c.in_default.is in
+    let z = sym e.code.ensures ∙ e.if-code-ne0.false in (
+      rw (moved f) (passed_on (turn f).loop-at.invariant.0 (there f) (read f k) (fault f k) z),
+      (turn f).loop-at.invariant.1,
     )
 
 -- a call that is drawn
-module _ (c : tie.After-count invariant-loop decreases-loop) where
-  abbrev passed : tie.Else1 invariant-loop decreases-loop
-  passed = c.before.before.before.before
+module _ (c : tie.After-count-counted invariant-loop decreases-loop) where
+  abbrev passed : tie.Else-code-ne0 invariant-loop decreases-loop
+  passed = c.before.before
 
-  abbrev read_of : tie.After-fault-in invariant-loop decreases-loop
+  abbrev read_of : tie.After-fault_in-fault invariant-loop decreases-loop
   read_of = passed.before.before
 
-  more : Surveying (glyph (begin read_of).args.words.now (begin read_of).args.masks.now) c.count.result.trail
-      ((turn read_of).loop.count + c.count.result.words) (next_at (word read_of) (turn read_of).loop.at) ×
-      ((turn read_of).loop.count + c.count.result.words ≤ 10 * length (begin read_of).args.words.now)
+  more : Surveying (glyph (begin read_of).args.words.now (begin read_of).args.masks.now) c.count-counted.result.trail
+      ((turn read_of).loop-at.count + c.count-counted.result.words) (next_at (word read_of) (turn read_of).loop-at.at) ×
+      ((turn read_of).loop-at.count + c.count-counted.result.words ≤ 10 * length (begin read_of).args.words.now)
   more =
       let f = read_of in
-      let k = c.before.before.command.given.1 in
-      drawn-on (turn f).loop.inv.0 (there f) (read f k) (fault f k)
-      (sym passed.before.code.ensures ∙ passed.if1.left) c.count.ensures.0
+      let k = c.in-Draw.is in
+      drawn-on (turn f).loop-at.invariant.0 (there f) (read f k) (fault f k)
+      (sym passed.code.ensures ∙ passed.if-code-ne0.false) c.count-counted.ensures.0
 
-add-count : tie.Need-overflow-add-count invariant-loop decreases-loop
+add-count : tie.Need-overflow_add-count invariant-loop decreases-loop
 add-count c =
     let f = c.before.before in
-    omega (arith, (more f).1, (begin (read_of f)).pre.0)
+    omega (arith, (more f).1, (begin (read_of f)).requires.0)
 
-loop-less-2 : tie.Need-loop-smaller-2 invariant-loop decreases-loop
+loop-less-2 : tie.Need-loop-at-smaller invariant-loop decreases-loop
 loop-less-2 c =
     let f = read_of c.before.before in
     omega (arith, moved f, there f)
 
-loop-again-2 : tie.Need-loop-preserved-2 invariant-loop decreases-loop
+loop-again-2 : tie.Need-loop-at-preserved invariant-loop decreases-loop
 loop-again-2 c = rw (moved (read_of c.before.before)) (more c.before.before)
 
-returns-2 : tie.Need-returns-2 invariant-loop decreases-loop
+returns-2 : tie.Need-returns invariant-loop decreases-loop
 returns-2 c =
-    let l = c.before in
-    (surveyed l.loop.invariant.0 (omega arith), l.loop.invariant.1)
+    let l = c in
+    (surveyed l.loop-at.invariant.0 (omega arith), l.loop-at.invariant.1)
 
-pub survey-spec : {M : Type 1} → statement M
-survey-spec =
+pub survey_spec : {M : Type 1} → statement M
+survey_spec =
     tie.close
     (tie.spec invariant-loop decreases-loop (λ c κs. search rules) loop-holds (λ c κs. search rules) (λ c κs. search rules)
     (λ c κs. search rules) returns (λ c. search rules) (λ c. search rules) loop-less loop-again (λ c κs. search rules)

@@ -7,16 +7,16 @@ use Rattle.listing.proofs.Answers.{edges-listed}
 use Rattle.listing.proofs.answer.count_for.Statement.{statement}
 use Rattle.listing.proofs.answer.count_for.Tie as tie
 
-answer-for-requires : tie.Need-answer-for-requires
+answer-for-requires : tie.Need-answer_for-answer-requires
 answer-for-requires c κs = search rules
 
-summary-requires : tie.Need-summary-requires
+summary-requires : tie.Need-summary-summary-requires
 summary-requires c κs = search rules
 
 returns : tie.Need-returns
 returns c =
-    ap (λ (s : Summary). s.edges) (c.summary.ensures ∙ ap list_summary c.before.answer-for.ensures) ∙
+    ap (λ (s : Summary). s.edges) (c.summary-summary.ensures ∙ ap list_summary c.answer_for-answer.ensures) ∙
     edges-listed _ _
 
-pub count-for-spec : {M : Type 1} → statement M
-count-for-spec = tie.close (tie.spec answer-for-requires summary-requires returns)
+pub count_for_spec : {M : Type 1} → statement M
+count_for_spec = tie.close (tie.spec answer-for-requires summary-requires returns)

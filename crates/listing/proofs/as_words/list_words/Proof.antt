@@ -19,15 +19,15 @@ use Rattle.listing.proofs.Words.{over-length, one_more}
 use Rattle.listing.proofs.as_words.list_words.Statement.{statement}
 use Rattle.listing.proofs.as_words.list_words.Tie as tie
 
-abbrev invariant-loop : tie.invariant-loop
+abbrev invariant-loop : tie.invariant-loop-i
 invariant-loop list₀ m room count i₀ list i =
     (i ≤ count) × (list ≡ over (list_words (take i (records_in m room))) list₀)
 
-abbrev decreases-loop : tie.decreases-loop
+abbrev decreases-loop : tie.decreases-loop-i
 decreases-loop list₀ m room count i₀ list i = count - i
 
 -- where the loop stands
-module _ (c : tie.At-loop invariant-loop decreases-loop) where
+module _ (c : tie.At-loop-i invariant-loop decreases-loop) where
   abbrev begin : tie.Start invariant-loop decreases-loop
   begin = c.before.before
 
@@ -35,118 +35,118 @@ module _ (c : tie.At-loop invariant-loop decreases-loop) where
   lent = begin.args.list.now
 
   abbrev listed : List EdgeRecord
-  listed = records_in begin.args.t1 (length lent / 6)
+  listed = records_in begin.args.map (length lent / 6)
 
   -- all that is listed has room
   fits : 6 * length listed ≤ length lent
-  fits = omega (arith, listed-fits begin.args.t1 (length lent / 6))
+  fits = omega (arith, listed-fits begin.args.map (length lent / 6))
 
   -- so many are done
-  done : length (take c.loop.i listed) ≡ c.loop.i
-  done = length-take-le c.loop.i listed (omega (arith, c.before.count-for.ensures))
+  done : length (take c.loop-i.i listed) ≡ c.loop-i.i
+  done = length-take-le c.loop-i.i listed (omega (arith, c.count_for-count.ensures))
 
   -- no word is lost
-  same : length c.loop.list ≡ length lent
+  same : length c.loop-i.list ≡ length lent
   same =
-      ap length c.loop.invariant.1 ∙
-      over-length lent (take c.loop.i listed) (omega (arith, done, fits, c.before.count-for.ensures))
+      ap length c.loop-i.invariant.1 ∙
+      over-length lent (take c.loop-i.i listed) (omega (arith, done, fits, c.count_for-count.ensures))
 
 -- in a turn there is a record, that of its edge
-module _ (c : tie.In-loop invariant-loop decreases-loop) where
+module _ (c : tie.In-loop-i invariant-loop decreases-loop) where
   abbrev at : ℕ
-  at = c.before.loop.i
+  at = c.loop-i.i
 
   abbrev rs : List EdgeRecord
   rs = listed c.before
 
   there : at < length rs
-  there = omega (arith, c.before.before.count-for.ensures)
+  there = omega (arith, c.count_for-count.ensures)
 
-  turn : (at < 96) × (take (at + 1) rs ≡ take at rs ++ (record_at (begin c.before).args.t1 at ∷ []))
+  turn : (at < 96) × (take (at + 1) rs ≡ take at rs ++ (record_at (begin c.before).args.map at ∷ []))
   turn =
       let b = begin c.before in
-      listed-stand b.args.t1 _ (held-long b.args.t1 b.good.0.1.1.0.1.0.1) at there
+      listed-stand b.args.map _ (held-long b.args.map b.good.0.1.1.0.1.0.1) at there
 
-  room : 6 * at + 6 ≤ length c.before.loop.list
+  room : 6 * at + 6 ≤ length c.loop-i.list
   room = omega (arith, same c.before, fits c.before, there)
 
-count-for-requires : tie.Need-count-for-requires invariant-loop decreases-loop
+count-for-requires : tie.Need-count_for-count-requires invariant-loop decreases-loop
 count-for-requires c κs = search rules
 
-loop-holds : tie.Need-loop-init invariant-loop decreases-loop
+loop-holds : tie.Need-loop-i-init invariant-loop decreases-loop
 unfolding over list_words
 loop-holds c = (omega arith, refl)
 
-mul_at : tie.Need-overflow-mul-at invariant-loop decreases-loop
+mul_at : tie.Need-overflow_mul-at invariant-loop decreases-loop
 mul_at c = omega (arith, (turn c).0)
 
-add-end : tie.Need-overflow-add-end invariant-loop decreases-loop
+add-end : tie.Need-overflow_add-end invariant-loop decreases-loop
 add-end c = omega (arith, (turn c).0)
 
-mul-put-record : tie.Need-overflow-mul-put-record invariant-loop decreases-loop
+mul-put-record : tie.Need-offset_bounds-list-at invariant-loop decreases-loop
 mul-put-record c = omega (arith, (turn c).0)
 
-sub-put-record : tie.Need-overflow-sub-put-record invariant-loop decreases-loop
+sub-put-record : tie.Need-slice_bounds-put_record-count invariant-loop decreases-loop
 sub-put-record c = omega arith
 
-part-put-record-start : tie.Need-slice-bounds-put-record-start invariant-loop decreases-loop
+part-put-record-start : tie.Need-slice_bounds-put_record-start invariant-loop decreases-loop
 part-put-record-start c = search rules
 
-part-put-record-end : tie.Need-slice-bounds-put-record-end invariant-loop decreases-loop
+part-put-record-end : tie.Need-slice_bounds-put_record-end invariant-loop decreases-loop
 part-put-record-end c = room c
 
-mul-of : tie.Need-overflow-mul-of invariant-loop decreases-loop
+mul-of : tie.Need-offset_bounds-map-i invariant-loop decreases-loop
 mul-of c = omega (arith, (turn c.before).0)
 
-element-copy-out-of : tie.Need-element-copy-out-of invariant-loop decreases-loop
+element-copy-out-of : tie.Need-bounds-map-i invariant-loop decreases-loop
 element-copy-out-of c = (turn c.before).0
 
 of-requires : tie.Need-of-requires invariant-loop decreases-loop
 of-requires c κs = search rules
 
-put-record-requires : tie.Need-put-record-requires invariant-loop decreases-loop
+put-record-requires : tie.Need-put_record-requires invariant-loop decreases-loop
 put-record-requires c κs =
     let l = c.before.before.before in
-    mid_len (6 * at l) (6 * at l + 6) l.before.loop.list (room l) ∙ omega arith
+    mid_len (6 * at l) (6 * at l + 6) l.loop-i.list (room l) ∙ omega arith
 
-add-i : tie.Need-overflow-add-i invariant-loop decreases-loop
+add-i : tie.Need-overflow_step-i invariant-loop decreases-loop
 add-i c = search rules
 
-loop-less : tie.Need-loop-smaller invariant-loop decreases-loop
+loop-less : tie.Need-loop-i-smaller invariant-loop decreases-loop
 loop-less c = search rules
 
-loop-again : tie.Need-loop-preserved invariant-loop decreases-loop
+loop-again : tie.Need-loop-i-preserved invariant-loop decreases-loop
 loop-again c =
     let l = c.before.before.before.before.before in
     let d = l.before in
-    let r = record_at (begin d).args.t1 (at l) in
-    let part = c.before.put_record.new.0 in (
+    let r = record_at (begin d).args.map (at l) in
+    let part = c.put_record.new.0 in (
       search rules,
-      ap (λ (x : List ℤ). put_mid (6 * at l) (6 * at l + 6 - 6 * at l) x part) d.loop.invariant.1 ∙
+      ap (λ (x : List ℤ). put_mid (6 * at l) (6 * at l + 6 - 6 * at l) x part) d.loop-i.invariant.1 ∙
           one_more (lent d) (take (at l) (rs l)) (omega (arith, done d, fits d, there l)) r (at l) (sym (done d))
-          (c.before.put_record.ensures ∙ ap record_words c.before.before.of.ensures) ∙
+          (c.put_record.ensures ∙ ap record_words c.of.ensures) ∙
           ap (λ (x : List EdgeRecord). over (list_words x) (lent d)) (sym (turn l).1),
     )
 
-answer-for-requires : tie.Need-answer-for-requires invariant-loop decreases-loop
+answer-for-requires : tie.Need-answer_for-requires invariant-loop decreases-loop
 answer-for-requires c κs = search rules
 
-same_length : tie.Need-same-length invariant-loop decreases-loop
+same_length : tie.Need-shape_of-list invariant-loop decreases-loop
 same_length c = same c.before.before
 
 returns : tie.Need-returns invariant-loop decreases-loop
 returns c =
     let d = c.before.before in
     record {
-      answer = c.answer-for.ensures;
+      answer = c.answer_for.ensures;
       memory =
-          d.loop.invariant.1 ∙
+          d.loop-i.invariant.1 ∙
           ap (λ (x : List EdgeRecord). over (list_words x) (lent d))
-          (take_all d.loop.i (listed d) (omega (arith, d.before.count-for.ensures)));
+          (take_all d.loop-i.i (listed d) (omega (arith, d.count_for-count.ensures)));
     }
 
-pub list-words-spec : {M : Type 1} → statement M
-list-words-spec =
+pub list_words_spec : {M : Type 1} → statement M
+list_words_spec =
     tie.close
     (tie.spec
     invariant-loop

@@ -25,49 +25,49 @@ held : (c : tie.Start) →
 held c = search rules
 
 -- and so does its kind
-told : (c : tie.After-kind-number) → SFits w32 c.kind-number.result
+told : (c : tie.After-kind_number) → SFits w32 c.kind_number.result
 told c = search rules
 
-slice-set-from-height : tie.Need-slice-set-from-height
+slice-set-from-height : tie.Need-bounds-words-0
 slice-set-from-height c = search rules
 
-slice-set-from-device : tie.Need-slice-set-from-device
+slice-set-from-device : tie.Need-bounds-words-1
 slice-set-from-device c = search rules
 
-slice-set-from-scale : tie.Need-slice-set-from-scale
+slice-set-from-scale : tie.Need-bounds-words-2
 slice-set-from-scale c = search rules
 
-kind-number-requires : tie.Need-kind-number-requires
+kind-number-requires : tie.Need-kind_number-requires
 kind-number-requires c κs = search rules
 
-slice-set-from-words : tie.Need-slice-set-from-words
+slice-set-from-words : tie.Need-bounds-words-3
 slice-set-from-words c = search rules
 
-cast-words : tie.Need-overflow-cast-words
+cast-words : tie.Need-overflow_cast-words
 cast-words c = search rules
 
-slice-set-from-words-2 : tie.Need-slice-set-from-words-2
-slice-set-from-words-2 c = simp length-set (omega (arith, c.before.before.before.before.before.requires))
+slice-set-from-words-2 : tie.Need-bounds-words-4
+slice-set-from-words-2 c = simp length-set (omega (arith, c.requires))
 
-cast-words-2 : tie.Need-overflow-cast-words-2
+cast-words-2 : tie.Need-overflow_cast-words-2
 cast-words-2 c = search rules
 
-slice-set-from-words-3 : tie.Need-slice-set-from-words-3
-slice-set-from-words-3 c = simp length-set (omega (arith, c.before.before.before.before.before.before.requires))
+slice-set-from-words-3 : tie.Need-bounds-words-5
+slice-set-from-words-3 c = simp length-set (omega (arith, c.requires))
 
-same_length : tie.Need-same-length
+same_length : tie.Need-shape_of-words
 same_length c = simp length-set
 
 returns : tie.Need-returns
 returns c =
     let b = c.before.before.before.before.before.before in
     let fits = held b in
-    let k = to_z-of_z (told c.before.before) ∙ c.before.before.kind-number.ensures in
+    let k = to_z-of_z (told c.before.before) ∙ c.kind_number.ensures in
     six-stores b.args.words.now b.requires (to_z-of_z fits.0) (to_z-of_z fits.1.0) (to_z-of_z fits.1.1.0) k
     (to_z_pos w32 {n = b.args.edge.stem} (omega (arith, fits.1.1.1))) (flag_word b.args.edge.locked)
 
-pub put-record-spec : {M : Type 1} → statement M
-put-record-spec =
+pub put_record_spec : {M : Type 1} → statement M
+put_record_spec =
     tie.close
     (tie.spec
     slice-set-from-height

@@ -392,9 +392,9 @@ module _ {M : Type 1} {𝓤 : Ura M} (𝓛 : Logic 𝓤) (mem : Memory → SProp
       (list-edges.clauses 𝓛 mem run) (WpFn 𝓤 H 𝓣.C 𝓣.Λ code.function)
       (WpFn-mono 𝓤 H 𝓛.laws 𝓣 code.function) walks
 
-pub list-edges-spec : {M : Type 1} → statement M
+pub list_edges_spec : {M : Type 1} → statement M
 unfolding code.routine tables_of
-list-edges-spec 𝓤 𝓛 𝓜 𝓡 =
+list_edges_spec 𝓤 𝓛 𝓜 𝓡 =
     let A = 𝓛.A in
     let 𝓣 = tables 𝓤 𝓛.H 𝓜 𝓡 code.env in
     entered 𝓤 𝓛.H (triple_of 𝓛 list-edges.signature (list-edges.spec 𝓛 𝓜.mem 𝓡.run))

@@ -14,72 +14,72 @@ use Rattle.listing.proofs.Counting.{records-length, count-more}
 use Rattle.listing.proofs.summary.count.Statement.{statement}
 use Rattle.listing.proofs.summary.count.Tie as tie
 
-abbrev invariant-loop : tie.invariant-loop
+abbrev invariant-loop : tie.invariant-loop-i
 invariant-loop what m len count₀ i₀ count i =
     (i ≤ len) × ((count ≤ i) × (count ≡ count_of (counts what) (take i (edge_records m))))
 
-abbrev decreases-loop : tie.decreases-loop
+abbrev decreases-loop : tie.decreases-loop-i
 decreases-loop what m len count₀ i₀ count i = len - i
 
 -- in a turn, one more is counted where it passes
-module _ (c : tie.After-counts-as invariant-loop decreases-loop) where
-  abbrev loop : tie.At-loop invariant-loop decreases-loop
+module _ (c : tie.After-counts_as invariant-loop decreases-loop) where
+  abbrev loop : tie.At-loop-i invariant-loop decreases-loop
   loop = c.before.before.before.before
 
   abbrev begin : tie.Start invariant-loop decreases-loop
   begin = loop.before.before
 
-  turned : {t : Bool} → c.counts-as.result ≡ t →
-      loop.loop.count + cond t 1 0 ≡
-      count_of (counts begin.args.what) (take (loop.loop.i + 1) (edge_records begin.args.t1))
+  turned : {t : Bool} → c.counts_as.result ≡ t →
+      loop.loop-i.count + cond t 1 0 ≡
+      count_of (counts begin.args.what) (take (loop.loop-i.i + 1) (edge_records begin.args.map))
   turned e =
-      let l = held-long begin.args.t1 begin.good.0.1.1.0.1.0.1 in
-      let h : loop.loop.i < length (edge_records begin.args.t1) =
-      omega (arith, records-length begin.args.t1 l, loop.before.least.ensures) in
+      let l = held-long begin.args.map begin.good.0.1.1.0.1.0.1 in
+      let h : loop.loop-i.i < length (edge_records begin.args.map) =
+      omega (arith, records-length begin.args.map l, loop.least-len.ensures) in
       let f = counts begin.args.what in
-      let k = ap {B = ℕ} (λ b. cond b 1 0) (sym e ∙ c.counts-as.ensures ∙ ap f c.before.of.ensures) in
-      omega (arith, k, loop.loop.inv.1.1, count-more begin.args.t1 l f loop.loop.i h)
+      let k = ap {B = ℕ} (λ b. cond b 1 0) (sym e ∙ c.counts_as.ensures ∙ ap f c.of-record.ensures) in
+      omega (arith, k, loop.loop-i.invariant.1.1, count-more begin.args.map l f loop.loop-i.i h)
 
-least-requires : tie.Need-least-requires invariant-loop decreases-loop
+least-requires : tie.Need-least-len-requires invariant-loop decreases-loop
 least-requires c κs = search rules
 
-loop-holds : tie.Need-loop-init invariant-loop decreases-loop
+loop-holds : tie.Need-loop-i-init invariant-loop decreases-loop
 unfolding count_of
 loop-holds c = (omega arith, (omega arith, refl))
 
-mul-of : tie.Need-overflow-mul-of invariant-loop decreases-loop
+mul-of : tie.Need-offset_bounds-map-i invariant-loop decreases-loop
 mul-of c = search rules
 
-element-copy-out-of : tie.Need-element-copy-out-of invariant-loop decreases-loop
+element-copy-out-of : tie.Need-bounds-map-i invariant-loop decreases-loop
 element-copy-out-of c = search rules
 
-of-requires : tie.Need-of-requires invariant-loop decreases-loop
+of-requires : tie.Need-of-record-requires invariant-loop decreases-loop
 of-requires c κs = search rules
 
-counts-as-requires : tie.Need-counts-as-requires invariant-loop decreases-loop
+counts-as-requires : tie.Need-counts_as-requires invariant-loop decreases-loop
 counts-as-requires c κs = search rules
 
-add-count : tie.Need-overflow-add-count invariant-loop decreases-loop
+add-count : tie.Need-overflow_add-count invariant-loop decreases-loop
 add-count c = search rules
 
-add-i : tie.Need-overflow-add-i invariant-loop decreases-loop
+add-i : tie.Need-overflow_step-i invariant-loop decreases-loop
 add-i c = search rules
 
-loop-less : tie.Need-loop-smaller invariant-loop decreases-loop
+loop-less : tie.Need-loop-i-smaller invariant-loop decreases-loop
 loop-less c = search rules
 
-loop-again : tie.Need-loop-preserved invariant-loop decreases-loop
+loop-again : tie.Need-loop-i-preserved invariant-loop decreases-loop
 loop-again c =
-    ⊎_elim (λ w. (omega arith, (omega arith, w.1 ∙ turned c.before w.0.taken)))
-    (λ w. (omega arith, (omega arith, omega (arith, w.1, turned c.before w.0.left)))) c.if1.branch
+    ⊎_elim (λ w. (omega arith, (omega arith, w.1 ∙ turned c.before w.0.true)))
+    (λ w. (omega arith, (omega arith, omega (arith, w.1, turned c.before w.0.left)))) c.if-counts_as.branch
 
 returns : tie.Need-returns invariant-loop decreases-loop
 returns c =
-    let b = c.before.before.before in
-    let n = records-length b.args.t1 (held-long b.args.t1 b.well-formed.0.1.1.0.1.0.1) in
-    c.before.loop.invariant.1.1 ∙
+    let b = c in
+    let n = records-length b.args.map (held-long b.args.map b.well_formed.0.1.1.0.1.0.1) in
+    c.loop-i.invariant.1.1 ∙
     ap (count_of (counts b.args.what))
-    (take_all c.before.loop.i (edge_records b.args.t1) (omega (arith, n, c.before.before.least.ensures)))
+    (take_all c.loop-i.i (edge_records b.args.map) (omega (arith, n, c.least-len.ensures)))
 
 pub count_spec : {M : Type 1} → statement M
 count_spec =

@@ -58,70 +58,70 @@ module _ (c : tie.After-operands) where
 
   -- how many operands it has
   many : c.operands.result ≡ operands_of kind
-  many = c.operands.ensures.0 ∙ ap operands_of c.before.before.natural.ensures.0
+  many = c.operands.ensures.0 ∙ ap operands_of c.natural-kind.ensures.0
 
   -- and with how many it is given
-  few : c.before.given-operands.result ≡ given_operands kind
-  few = c.before.given-operands.ensures.0 ∙ ap given_operands c.before.before.natural.ensures.0
+  few : c.given_operands-given.result ≡ given_operands kind
+  few = c.given_operands-given.ensures.0 ∙ ap given_operands c.natural-kind.ensures.0
 
   -- they have room
-  room : begin.args.to + 1 + c.before.given-operands.result ≤ length begin.args.commands.now
-  room = omega (arith, few, begin.pre.1)
+  room : begin.args.to + 1 + c.given_operands-given.result ≤ length begin.args.commands.now
+  room = omega (arith, few, begin.requires.1)
 
-natural-requires : tie.Need-natural-requires
+natural-requires : tie.Need-natural-kind-requires
 natural-requires c κs = search rules
 
-given-operands-requires : tie.Need-given-operands-requires
+given-operands-requires : tie.Need-given_operands-given-requires
 given-operands-requires c κs = search rules
 
-add-next : tie.Need-overflow-add-next
+add-next : tie.Need-overflow_add-next
 add-next c = search rules
 
 operands-requires : tie.Need-operands-requires
 operands-requires c κs = search rules
 
-add-next-2 : tie.Need-overflow-add-next-2
+add-next-2 : tie.Need-overflow_add-next-2
 add-next-2 c = search rules
 
-add-behind : tie.Need-overflow-add-behind
+add-behind : tie.Need-overflow_add-behind
 add-behind c = search rules
 
-add-end : tie.Need-overflow-add-end
+add-end : tie.Need-overflow_add-end
 add-end c = search rules
 
 word-requires : tie.Need-word-requires
 word-requires c κs = search rules
 
-mul-t10 : tie.Need-overflow-mul-t10
+mul-t10 : tie.Need-offset_bounds-commands-to
 mul-t10 c = search rules
 
-slice-set-from-commands : tie.Need-slice-set-from-commands
+slice-set-from-commands : tie.Need-bounds-commands-to
 slice-set-from-commands c = search rules
 
-sub-read-words : tie.Need-overflow-sub-read-words
+sub-read-words : tie.Need-overflow_sub-next
 sub-read-words c =
     let o = c.before in
     omega (arith, many o, few o, given-fewer (kind o))
 
-mul-read-words : tie.Need-overflow-mul-read-words
+mul-read-words : tie.Need-offset_bounds-commands-behind
 mul-read-words c = search rules
 
-sub-read-words-2 : tie.Need-overflow-sub-read-words-2
+sub-read-words-2 : tie.Need-slice_bounds-read_words-count
 sub-read-words-2 c = search rules
 
-part-read-words-start : tie.Need-slice-bounds-read-words-start
+part-read-words-start : tie.Need-slice_bounds-read_words-start
 part-read-words-start c = search rules
 
-part-read-words-end : tie.Need-slice-bounds-read-words-end
+part-read-words-end : tie.Need-slice_bounds-read_words-end
 part-read-words-end c = simp length-set (room c.before)
 
-read-words-requires : tie.Need-read-words-requires
+read-words-requires : tie.Need-read_words-requires
 read-words-requires c κs =
     let o = c.before.before in
     simp length-take (omega (arith, many o, few o, given-fewer (kind o), (begin o).requires.0))
 
-same_length : tie.Need-same-length
-same_length c = simp length-set at c.commands.given.1
+same_length : tie.Need-shape_of-commands
+same_length c = simp length-set at c.commands-1.given.1
 
 returns : tie.Need-returns
 returns c =
@@ -130,10 +130,10 @@ returns c =
     let a = (begin o).args in
     let f : SFits w32 d.word.result = search rules in
     placed-piece (raw_at a.script.now) a.at a.to a.commands.now (many o) (few o) (room o)
-    (to_z-of_z f ∙ d.word.ensures) c.before.read-words.ensures
+    (to_z-of_z f ∙ d.word.ensures) c.read_words.ensures
 
-pub copy-piece-spec : {M : Type 1} → statement M
-copy-piece-spec =
+pub copy_piece_spec : {M : Type 1} → statement M
+copy_piece_spec =
     tie.close
     (tie.spec
     natural-requires

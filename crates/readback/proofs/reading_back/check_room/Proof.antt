@@ -16,54 +16,54 @@ header : (c : tie.Start) → 64 ≤ length c.args.script.now
 header c = (passed c.args.script.now c.requires).fine.enough
 
 -- the words that were counted are those that are given
-module _ (c : tie.After-count-short) where
+module _ (c : tie.After-count_short) where
   abbrev begin : tie.Start
   begin = c.before.before.before.before
 
   abbrev script : List ℕ
   script = begin.args.script.now
 
-  counted : c.count-short.result ≡ length (shortened (script_pieces script))
-  counted = rw (c.before.before.natural.ensures.0, c.before.natural2.ensures.0) at c.count-short.ensures
+  counted : c.count_short.result ≡ length (shortened (script_pieces script))
+  counted = rw (c.natural-first.ensures.0, c.natural-count.ensures.0) at c.count_short.ensures
 
-natural-requires : tie.Need-natural-requires
+natural-requires : tie.Need-natural-first-requires
 natural-requires c κs = omega (arith, header c.before)
 
-natural-requires-2 : tie.Need-natural-requires-2
+natural-requires-2 : tie.Need-natural-count-requires
 natural-requires-2 c κs = omega (arith, header c.before.before)
 
-count-short-requires : tie.Need-count-short-requires
+count-short-requires : tie.Need-count_short-requires
 count-short-requires c κs =
     let b = c.before.before.before in
-    whole-commands b.args.script.now b.requires c.before.natural.ensures.0 c.natural2.ensures.0
+    whole-commands b.args.script.now b.requires c.natural-first.ensures.0 c.natural-count.ensures.0
 
-returns : tie.Need-returns
+returns : tie.Need-returns-then-words-count_short
 returns c =
     let k = c.before in
     let b = begin k in
-    few_words (script k) b.args.words b.args.bytes b.pre (omega (arith, counted k, c.if1.true))
+    few_words (script k) b.args.words b.args.bytes b.requires (omega (arith, counted k, c.if-words-count_short.true))
 
-natural-requires-3 : tie.Need-natural-requires-3
+natural-requires-3 : tie.Need-natural-requires
 natural-requires-3 c κs = omega (arith, header (begin c.before))
 
-returns-2 : tie.Need-returns-2
+returns-2 : tie.Need-returns-then-bytes-natural
 returns-2 c =
     let k = c.before.before.before in
     let b = begin k in
-    few_bytes (script k) b.args.words b.args.bytes b.pre
-    (omega (arith, counted k, c.before.before.if1.false))
-    (omega (arith, c.before.natural3.ensures.0, c.if2.true))
+    few_bytes (script k) b.args.words b.args.bytes b.requires
+    (omega (arith, counted k, c.if-words-count_short.false))
+    (omega (arith, c.natural.ensures.0, c.if-bytes-natural.true))
 
-returns-3 : tie.Need-returns-3
+returns-3 : tie.Need-returns
 returns-3 c =
     let k = c.before.before.before in
     let b = begin k in
-    enough (script k) b.args.words b.args.bytes b.pre
-    (omega (arith, counted k, c.before.before.if1.false))
-    (omega (arith, c.before.natural3.ensures.0, c.if2.false))
+    enough (script k) b.args.words b.args.bytes b.requires
+    (omega (arith, counted k, c.if-words-count_short.false))
+    (omega (arith, c.natural.ensures.0, c.if-bytes-natural.false))
 
-pub check-room-spec : {M : Type 1} → statement M
-check-room-spec =
+pub check_room_spec : {M : Type 1} → statement M
+check_room_spec =
     tie.close
     (tie.spec
     natural-requires

@@ -29,67 +29,67 @@ module _ (c : tie.Start) where
   fine = passed script ok
 
 -- the start, from where the header has been read
-abbrev begin : tie.After-natural4 → tie.Start
+abbrev begin : tie.After-natural-bytes → tie.Start
 begin c = c.before.before.before.before.before.before
 
-natural-requires : tie.Need-natural-requires
+natural-requires : tie.Need-natural-first-requires
 natural-requires c κs = omega (arith, (fine c.before.before).fine.enough)
 
-natural-requires-2 : tie.Need-natural-requires-2
+natural-requires-2 : tie.Need-natural-count-requires
 natural-requires-2 c κs = omega (arith, (fine c.before.before.before).fine.enough)
 
-natural-requires-3 : tie.Need-natural-requires-3
+natural-requires-3 : tie.Need-natural-from-requires
 natural-requires-3 c κs = omega (arith, (fine c.before.before.before.before).fine.enough)
 
-mul-from : tie.Need-overflow-mul-from
+mul-from : tie.Need-overflow_mul-from
 mul-from c = search rules
 
-natural-requires-4 : tie.Need-natural-requires-4
+natural-requires-4 : tie.Need-natural-bytes-requires
 natural-requires-4 c κs = omega (arith, (fine c.before.before.before.before.before).fine.enough)
 
-add-end : tie.Need-overflow-add-end
+add-end : tie.Need-overflow_add-end
 add-end c = search rules
 
-copy-commands-requires : tie.Need-copy-commands-requires
+copy-commands-requires : tie.Need-copy_commands-words-requires
 copy-commands-requires c κs =
     let n = c.before.before.before in
     let b = begin c.before in
-    let f = n.before.natural.ensures.0 in
-    let g = n.natural2.ensures.0 in (
+    let f = n.natural-first.ensures.0 in
+    let g = n.natural-count.ensures.0 in (
       whole-commands (script b) (ok b) f g,
-      rw (f, g) (words-fit (script b) (length b.args.commands.now) (length b.args.masks.now) b.pre),
+      rw (f, g) (words-fit (script b) (length b.args.commands.now) (length b.args.masks.now) b.requires),
     )
 
-sub-copy-bytes : tie.Need-overflow-sub-copy-bytes
+sub-copy-bytes : tie.Need-slice_bounds-copy_bytes-count
 sub-copy-bytes c = search rules
 
-part-copy-bytes-start : tie.Need-slice-bounds-copy-bytes-start
+part-copy-bytes-start : tie.Need-slice_bounds-copy_bytes-start
 part-copy-bytes-start c = search rules
 
-part-copy-bytes-end : tie.Need-slice-bounds-copy-bytes-end
+part-copy-bytes-end : tie.Need-slice_bounds-copy_bytes-end
 part-copy-bytes-end c =
     let n = c.before.before.before in
-    omega (arith, n.before.natural3.ensures.0, n.natural4.ensures.0, (fine (begin n)).fine.bytes)
+    omega (arith, n.natural-from.ensures.0, n.natural-bytes.ensures.0, (fine (begin n)).fine.bytes)
 
-copy-bytes-requires : tie.Need-copy-bytes-requires
+copy-bytes-requires : tie.Need-copy_bytes-requires
 copy-bytes-requires c κs =
     let n = c.before.before.before.before.before in
     let b = begin n in
-    rw (masks-part (script b) n.before.natural3.ensures.0 n.natural4.ensures.0)
-    (bytes_fit (script b) (length b.args.commands.now) (length b.args.masks.now) b.pre)
+    rw (masks-part (script b) n.natural-from.ensures.0 n.natural-bytes.ensures.0)
+    (bytes_fit (script b) (length b.args.commands.now) (length b.args.masks.now) b.requires)
 
 number-requires : tie.Need-number-requires
 number-requires c κs =
     omega (arith, (fine (begin c.before.before.before.before.before.before.before.before)).fine.enough)
 
-read-params-requires : tie.Need-read-params-requires
+read-params-requires : tie.Need-read_params-requires
 read-params-requires c κs =
     (fine (begin c.before.before.before.before.before.before.before.before.before)).whole
 
-same_length : tie.Need-same-length
+same_length : tie.Need-shape_of-commands
 same_length c = search rules
 
-same-length-2 : tie.Need-same-length-2
+same-length-2 : tie.Need-shape_of-masks
 same-length-2 c = search rules
 
 returns : tie.Need-returns
@@ -99,19 +99,19 @@ returns c =
     let m = k.before.before.before.before in
     let n = m.before.before in
     let s = script (begin n) in
-    let w = rw (n.before.before.before.natural.ensures.0, n.before.before.natural2.ensures.0) at
-    m.copy-commands.ensures in
+    let w = rw (n.natural-first.ensures.0, n.natural-count.ensures.0) at
+    m.copy_commands-words.ensures in
     record {
       answer =
-          said-is (given_in s) c.before.number.ensures c.read-params.ensures (w.0 ∙ sym (commands-length s))
-          (n.natural4.ensures.0 ∙ sym (masks-length s (ok (begin n))));
+          said-is (given_in s) c.number.ensures c.read_params.ensures (w.0 ∙ sym (commands-length s))
+          (n.natural-bytes.ensures.0 ∙ sym (masks-length s (ok (begin n))));
       words = w.1;
       bytes =
-          rw (masks-part s n.before.natural3.ensures.0 n.natural4.ensures.0) at k.copy-bytes.ensures;
+          rw (masks-part s n.natural-from.ensures.0 n.natural-bytes.ensures.0) at k.copy_bytes.ensures;
     }
 
-pub copied-spec : {M : Type 1} → statement M
-copied-spec =
+pub copied_spec : {M : Type 1} → statement M
+copied_spec =
     tie.close
     (tie.spec
     natural-requires

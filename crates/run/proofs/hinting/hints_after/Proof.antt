@@ -39,21 +39,21 @@ abbrev begin : tie.At-loop invariant-loop decreases-loop → tie.Start invariant
 begin l = l.before.before.before
 
 -- a word that is there starts in the script
-first-inside : (c : tie.Else1 invariant-loop decreases-loop) →
+first-inside : (c : tie.Else-at-n invariant-loop decreases-loop) →
     4 * (begin c.before.before).args.first ≤ length (begin c.before.before).args.script.now
 first-inside c =
     let s = begin c.before.before in
-    omega (arith, s.pre.0, length-drop (4 * s.args.first) s.args.script.now, c.if1.false)
+    omega (arith, s.requires.0, length-drop (4 * s.args.first) s.args.script.now, c.if-at-n.false)
 
-module _ (c : tie.After-read-command invariant-loop decreases-loop) where
+module _ (c : tie.After-read_command-read invariant-loop decreases-loop) where
   abbrev here : tie.At-loop invariant-loop decreases-loop
   here = c.before.before.before.before
 
   -- the command that was read
-  read_is : c.read-command.result ≡
+  read_is : c.read_command-read.result ≡
       read_at (raw_at (drop (4 * (begin here).args.first) (begin here).args.script.now)) (begin here).args.n
       here.loop.at
-  read_is = rw (lent (begin here).args.script.now (4 * (begin here).args.first)) at c.read-command.ensures
+  read_is = rw (lent (begin here).args.script.now (4 * (begin here).args.first)) at c.read_command-read.ensures
 
   -- what a command asks of the hints
   abbrev asks : Command → Hints
@@ -65,15 +65,15 @@ module _ (c : tie.After-read-command invariant-loop decreases-loop) where
   marks m = asks (Mark m)
 
   -- the mask that it names is there
-  inside : {m : Marking} → c.read-command.result.command ≡ Mark m →
+  inside : {m : Marking} → c.read_command-read.result.command ≡ Mark m →
       (begin here).args.from + mask_end m ≤ length (begin here).args.script.now
   inside e =
-      mask-there here.loop.inv.sound c.before.before.if1.false
+      mask-there here.loop.invariant.sound c.if-at-n.false
       (ap (λ (x : Read). x.command) (sym read_is) ∙ e)
 
 -- the hints behind a command are those that it asks
-made : (c : tie.At-match-branch invariant-loop decreases-loop) → asks c.before c.before.read-command.result.command ≡
-    c.match.hints
+made : (c : tie.Joined-command invariant-loop decreases-loop) → asks c.before c.read_command-read.result.command ≡
+    c.match-command.hints
 made c =
     let r = c.before in
     let l = here r in
@@ -92,102 +92,102 @@ made c =
     (⊎_elim
     (λ w. ap (asks r) w.1.given.1 ∙
     ap (λ (b : Bool). ready_for b a.state h)
-    (wanted h.map.is_valid w.1.given.0.0 (sym w.3.ensures ∙ w.4.taken)).1 ∙
+    (wanted h.map.is_valid w.1.given.0.0 (sym w.3.ensures ∙ w.4.true)).1 ∙
     sym (w.6 ∙ w.5.ensures))
     (λ w. ap (asks r) w.1.given.1 ∙
     idle-hints a.state h h.map.is_valid refl w.1.given.0.0 (sym w.3.ensures ∙ w.4.left) ∙
     sym w.5)))))))
-    c.match.branch
+    c.match-command.branch
 
-mul-start : tie.Need-overflow-mul-start invariant-loop decreases-loop
-mul-start c = omega (arith, c.before.requires.1.start)
+mul-start : tie.Need-overflow_mul-start invariant-loop decreases-loop
+mul-start c = omega (arith, c.requires.1.start)
 
-new-requires : tie.Need-new-requires invariant-loop decreases-loop
+new-requires : tie.Need-new-hints-requires invariant-loop decreases-loop
 new-requires c κs = search rules
 
 loop-holds : tie.Need-loop-init invariant-loop decreases-loop
 loop-holds c =
     let s = c.before.before in
     let a = s.args in
-    rw c.new.ensures (looking a.state a.script.now (raw_at (drop (4 * a.first) a.script.now)) a.first
+    rw c.new-hints.ensures (looking a.state a.script.now (raw_at (drop (4 * a.first) a.script.now)) a.first
     a.n a.from a.commands s.requires.1 (omega arith))
 
-returns : tie.Need-returns invariant-loop decreases-loop
-returns c = none-there c.before.before.loop.invariant c.if1.true
+returns : tie.Need-returns-then-at-n invariant-loop decreases-loop
+returns c = none-there c.loop.invariant c.if-at-n.true
 
-sub-read-command : tie.Need-overflow-sub-read-command invariant-loop decreases-loop
+sub-read-command : tie.Need-slice_bounds-read_command-count invariant-loop decreases-loop
 sub-read-command c = first-inside c
 
-part-read-command-start : tie.Need-slice-bounds-read-command-start invariant-loop decreases-loop
+part-read-command-start : tie.Need-slice_bounds-read_command-start invariant-loop decreases-loop
 part-read-command-start c = first-inside c
 
-part-read-command-end : tie.Need-slice-bounds-read-command-end invariant-loop decreases-loop
+part-read-command-end : tie.Need-slice_bounds-read_command-end invariant-loop decreases-loop
 part-read-command-end c = search rules
 
-read-command-requires : tie.Need-read-command-requires invariant-loop decreases-loop
+read-command-requires : tie.Need-read_command-read-requires invariant-loop decreases-loop
 read-command-requires c κs =
     let s = begin c.before.before.before in
-    rw (lent s.args.script.now (4 * s.args.first)) (s.pre.0, c.before.if1.false)
+    rw (lent s.args.script.now (4 * s.args.first)) (s.requires.0, c.if-at-n.false)
 
-enum-known-command : tie.Need-enum-known-command invariant-loop decreases-loop
+enum-known-command : tie.Need-enum_known-command invariant-loop decreases-loop
 enum-known-command c = search rules
 
-enum_told : tie.Need-enum-told invariant-loop decreases-loop
+enum_told : tie.Need-enum_told-1 invariant-loop decreases-loop
 enum_told c = search rules
 
-enum-known-marking : tie.Need-enum-known-marking invariant-loop decreases-loop
+enum-known-marking : tie.Need-enum_known-marking invariant-loop decreases-loop
 enum-known-marking c = search rules
 
-with-stem-requires : tie.Need-with-stem-requires invariant-loop decreases-loop
+with-stem-requires : tie.Need-with_stem-hints-requires invariant-loop decreases-loop
 with-stem-requires c κs = search rules
 
-enum-known-marking-2 : tie.Need-enum-known-marking-2 invariant-loop decreases-loop
+enum-known-marking-2 : tie.Need-enum_known-marking-in-Mark invariant-loop decreases-loop
 enum-known-marking-2 c = search rules
 
-mask-at-requires : tie.Need-mask-at-requires invariant-loop decreases-loop
+mask-at-requires : tie.Need-mask_at-requires invariant-loop decreases-loop
 mask-at-requires c κs =
     let k = c.before in
     let m = k.before.before.before in
-    omega (arith, inside m.before.before (m.command.given.1 ∙ ap Mark k.marking2.given.1))
+    omega (arith, inside m.before.before (m.in-Mark.is ∙ ap Mark k.in-Mask.is))
 
-with-mask-requires : tie.Need-with-mask-requires invariant-loop decreases-loop
+with-mask-requires : tie.Need-with_mask-hints-requires invariant-loop decreases-loop
 with-mask-requires c κs = search rules
 
-enum-known-marking-3 : tie.Need-enum-known-marking-3 invariant-loop decreases-loop
+enum-known-marking-3 : tie.Need-enum_known-marking-in-Mark-2 invariant-loop decreases-loop
 enum-known-marking-3 c = search rules
 
-mask-at-requires-2 : tie.Need-mask-at-requires-2 invariant-loop decreases-loop
+mask-at-requires-2 : tie.Need-mask_at-requires-in-Counter invariant-loop decreases-loop
 mask-at-requires-2 c κs =
     let k = c.before in
     let m = k.before.before.before in
-    omega (arith, inside m.before.before (m.command.given.1 ∙ ap Mark k.marking3.given.1))
+    omega (arith, inside m.before.before (m.in-Mark.is ∙ ap Mark k.in-Counter.is))
 
-counter-requires : tie.Need-counter-requires invariant-loop decreases-loop
+counter-requires : tie.Need-counter-hints-requires invariant-loop decreases-loop
 counter-requires c κs = search rules
 
-enum-told-2 : tie.Need-enum-told-2 invariant-loop decreases-loop
+enum-told-2 : tie.Need-enum_told-in-Clear invariant-loop decreases-loop
 enum-told-2 c = search rules
 
-new-requires-2 : tie.Need-new-requires-2 invariant-loop decreases-loop
+new-requires-2 : tie.Need-new-hints-requires-in-Clear invariant-loop decreases-loop
 new-requires-2 c κs = search rules
 
-enum-told-3 : tie.Need-enum-told-3 invariant-loop decreases-loop
+enum-told-3 : tie.Need-enum_told-in-Mark invariant-loop decreases-loop
 enum-told-3 c = search rules
 
-enum-known-command-2 : tie.Need-enum-known-command-2 invariant-loop decreases-loop
+enum-known-command-2 : tie.Need-enum_known-command-in-Draw-1 invariant-loop decreases-loop
 enum-known-command-2 c = search rules
 
-wants-map-requires : tie.Need-wants-map-requires invariant-loop decreases-loop
+wants-map-requires : tie.Need-wants_map-requires invariant-loop decreases-loop
 wants-map-requires c κs = search rules
 
-ready-requires : tie.Need-ready-requires invariant-loop decreases-loop
+ready-requires : tie.Need-ready-hints-requires invariant-loop decreases-loop
 ready-requires c κs = search rules
 
-add-counter : tie.Need-overflow-add-counter invariant-loop decreases-loop
+add-counter : tie.Need-overflow_step invariant-loop decreases-loop
 add-counter c = search rules
 
 loop-less : tie.Need-loop-smaller invariant-loop decreases-loop
-loop-less c = omega (arith, c.before.before.before.before.loop-test.true)
+loop-less c = omega (arith, c.loop-test.true)
 
 loop-again : tie.Need-loop-preserved invariant-loop decreases-loop
 loop-again c =
@@ -195,15 +195,15 @@ loop-again c =
     let l = here r in
     let a = (begin l).args in
     let e : a.commands - l.loop.counter ≡ suc (a.commands - (l.loop.counter + 1)) =
-    omega (arith, r.before.before.before.loop-test.true) in
+    omega (arith, r.loop-test.true) in
     rw (ap (λ (x : Read). x.next) (read_is r) ∙ next-is _ _ _)
-    (turn l.loop.inv r.before.before.if1.false e (ap (λ (x : Read). x.command) (sym (read_is r))) (made c))
+    (turn l.loop.invariant r.if-at-n.false e (ap (λ (x : Read). x.command) (sym (read_is r))) (made c))
 
-returns-2 : tie.Need-returns-2 invariant-loop decreases-loop
-returns-2 c = none_left c.before.loop.invariant (omega (arith, c.loop-test.false))
+returns-2 : tie.Need-returns invariant-loop decreases-loop
+returns-2 c = none_left c.loop.invariant (omega (arith, c.loop-test.false))
 
-pub hints-after-spec : {M : Type 1} → statement M
-hints-after-spec =
+pub hints_after_spec : {M : Type 1} → statement M
+hints_after_spec =
     tie.close
     (tie.spec
     invariant-loop

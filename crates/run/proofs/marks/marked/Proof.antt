@@ -42,104 +42,104 @@ module _ (st : HintState) (h : Hints) (z : Sizes) (bs : List ℕ) (ns is ms : Li
   countered-as : Kept st (countered st x h) z bs ns is ms → Kept st (countered st y h) z bs ns is ms
   countered-as k = subst (λ (m : HintMask). Kept st (countered st m h) z bs ns is ms) e k
 
-returns : tie.Need-returns
+returns : tie.Need-returns-in-Bad
 returns c =
-    let s = c.before.before.before in (
+    let s = c in (
       record {
         whole = s.requires.0.build.whole;
         long = s.requires.0.build.long;
         twelve = s.requires.0.twelve;
-        kept = λ h ms k. told s c.enum_told.given.1 h _ _ _ _ ms k;
+        kept = λ h ms k. told s c.in-Bad.is h _ _ _ _ ms k;
       },
       s.requires.1,
     )
 
-returns-2 : tie.Need-returns-2
+returns-2 : tie.Need-returns-in-Stem
 returns-2 c =
-    let m = c.before.before.before in
-    let s = m.before.before.before in
-    let k = c.with-stem.ensures in (
+    let m = c in
+    let s = m.before.before.before.before in
+    let k = c.with_stem.ensures in (
       record {
         whole = s.requires.0.build.whole;
         long = k.long;
         twelve = s.requires.0.twelve;
-        kept = λ h ms q. told s m.marking.given.1 h _ _ _ _ ms (k.kept (state-of s) h _ _ ms q);
+        kept = λ h ms q. told s m.in-Stem.is h _ _ _ _ ms (k.kept (state-of s) h _ _ ms q);
       },
       s.requires.1,
     )
 
-mask-at-requires : tie.Need-mask-at-requires
+mask-at-requires : tie.Need-mask_at-requires
 mask-at-requires c κs =
-    let m = c.before.before in
-    omega (arith, ap mask_end m.marking2.given.1, m.before.before.before.requires.0.named)
+    let m = c in
+    omega (arith, ap mask_end m.in-Mask.is, m.requires.0.named)
 
-returns-3 : tie.Need-returns-3
+returns-3 : tie.Need-returns-in-Mask
 returns-3 c =
-    let a = c.before in
-    let m = a.before.before.before in
-    let s = m.before.before.before in
-    let k = c.with-mask.ensures in (
+    let a = c in
+    let m = a in
+    let s = m.before.before.before.before.before in
+    let k = c.with_mask.ensures in (
       record {
         whole = s.requires.0.build.whole;
         long = s.requires.0.build.long;
         twelve = k.twelve;
-        kept = λ h ms q. told s m.marking2.given.1 h _ _ _ _ ms
+        kept = λ h ms q. told s m.in-Mask.is h _ _ _ _ ms
             (masked-as (state-of s) h _ _ _ _ ms a.mask_at.ensures (k.kept (state-of s) h _ _ ms q));
       },
       s.requires.1,
     )
 
-mask-at-requires-2 : tie.Need-mask-at-requires-2
+mask-at-requires-2 : tie.Need-mask_at-given-requires
 mask-at-requires-2 c κs =
-    let m = c.before in
-    omega (arith, ap mask_end m.marking3.given.1, m.before.before.before.requires.0.named)
+    let m = c in
+    omega (arith, ap mask_end m.in-Counter.is, m.requires.0.named)
 
-returns-4 : tie.Need-returns-4
+returns-4 : tie.Need-returns-in-Counter
 returns-4 c =
-    let a = c.before.before.before.before.before in
-    let m = a.before.before in
-    let s = m.before.before.before in
+    let a = c in
+    let m = a in
+    let s = m.before.before.before.before.before.before.before.before in
     let k = c.counter.ensures.0 in (
       record {
         whole = k.build.whole;
         long = k.build.long;
         twelve = s.requires.0.twelve;
-        kept = λ h ms q. told s m.marking3.given.1 h _ _ _ _ ms
-            (countered-as (state-of s) h _ _ _ _ ms a.mask-at2.ensures (k.kept h _ ms q));
+        kept = λ h ms q. told s m.in-Counter.is h _ _ _ _ ms
+            (countered-as (state-of s) h _ _ _ _ ms a.mask_at-given.ensures (k.kept h _ ms q));
       },
       c.counter.ensures.1,
     )
 
-returns-5 : tie.Need-returns-5
+returns-5 : tie.Need-returns-in-Clear
 returns-5 c =
-    let l = c.before in
-    let m = l.before.before in
-    let s = m.before.before.before in
-    let e = l.mask-to-all.ensures in (
+    let l = c in
+    let m = l in
+    let s = m.before.before.before.before.before in
+    let e = l.mask_to_all.ensures in (
       record {
         whole = s.requires.0.build.whole;
         long = s.requires.0.build.long;
         twelve = ap length e;
-        kept = λ h ms q. told s m.enum-told2.given.1 h _ _ _ _ ms
+        kept = λ h ms q. told s m.in-Clear.is h _ _ _ _ ms
             (rw c.none.ensures (cleared-kept (state-of s) _ _ ms e));
       },
       s.requires.1,
     )
 
-returns-6 : tie.Need-returns-6
+returns-6 : tie.Need-returns-in-Close
 returns-6 c =
-    let s = c.before.before.before in (
+    let s = c in (
       record {
         whole = s.requires.0.build.whole;
         long = s.requires.0.build.long;
         twelve = s.requires.0.twelve;
-        kept = λ h ms k. told s c.enum-told3.given.1 h _ _ _ _ ms k;
+        kept = λ h ms k. told s c.in-Close.is h _ _ _ _ ms k;
       },
       s.requires.1,
     )
 
-pub marked-spec : {M : Type 1} → statement M
-marked-spec =
+pub marked_spec : {M : Type 1} → statement M
+marked_spec =
     tie.close
     (tie.spec (λ c. search rules) (λ c. search rules) (λ c κs. search rules) (λ c. search rules) mask-at-requires
     (λ c κs. search rules) (λ c. search rules) mask-at-requires-2 (λ c κs. search rules) (λ c. search rules)

@@ -6,16 +6,16 @@ use borrow.Author.Rules.{rules}
 use Rattle.run.proofs.marks.mask_part.Statement.{statement}
 use Rattle.run.proofs.marks.mask_part.Tie as tie
 
-add-end : tie.Need-overflow-add-end
+add-end : tie.Need-overflow_add-end
 add-end c = search rules
 
-sub-result : tie.Need-overflow-sub-result
+sub-result : tie.Need-slice_bounds-result-count
 sub-result c = search rules
 
-part-result-start : tie.Need-slice-bounds-result-start
+part-result-start : tie.Need-slice_bounds-result-start
 part-result-start c = search rules
 
-part-result-end : tie.Need-slice-bounds-result-end
+part-result-end : tie.Need-slice_bounds-result-end
 part-result-end c = search rules
 
 back : (a l : ℕ) → (a + l) - a ≡ l
@@ -24,5 +24,5 @@ back a l = omega arith
 returns : tie.Need-returns
 returns c = rw back
 
-pub mask-part-spec : {M : Type 1} → statement M
-mask-part-spec = tie.close (tie.spec add-end sub-result part-result-start part-result-end returns)
+pub mask_part_spec : {M : Type 1} → statement M
+mask_part_spec = tie.close (tie.spec add-end sub-result part-result-start part-result-end returns)

@@ -7,10 +7,10 @@ use Rattle.zones.proofs.Listing.{state-is}
 use Rattle.run.proofs.running.run.Statement.{statement}
 use Rattle.run.proofs.running.run.Tie as tie
 
-run-by-requires : tie.Need-run-by-requires
+run-by-requires : tie.Need-run_by-requires
 run-by-requires c κs =
     let l = c.before.before.before.before.before.before.before.before.before in
-    let p = l.before.before.before.before.requires in (
+    let p = l.requires in (
       omega (arith, p.0),
       (p.1, record { long = refl; whole = record { all = refl; named = refl }; current = refl; notes = refl }),
     )
@@ -19,8 +19,8 @@ returns : tie.Need-returns
 returns c =
     let g = c.before.before.before.before.before.before.before.before.before in
     let l = g.before.before in
-    let a = l.before.before.before.before.args in
-    rw (state-is a.state _ _ g.gauge.ensures l.list.ensures) at c.before.run_by.ensures.0
+    let a = l.args in
+    rw (state-is a.state _ _ g.gauge.ensures l.list.ensures) at c.run_by.ensures.0
 
 pub run_spec : {M : Type 1} → statement M
 run_spec =

@@ -17,85 +17,85 @@ use Rattle.script.proofs.Counting.{sizes, count-step, count-end}
 use Rattle.script.proofs.count.count_records.Statement.{statement}
 use Rattle.script.proofs.count.count_records.Tie as tie
 
-abbrev invariant-loop : tie.invariant-loop
+abbrev invariant-loop : tie.invariant-loop-at
 invariant-loop out words end count₀ at₀ count at =
     (count + records_in (drop at (take end out)) ≡ records_in (take words out)) × ((count ≤ at) × (at ≤ end + 6))
 
-abbrev decreases-loop : tie.decreases-loop
+abbrev decreases-loop : tie.decreases-loop-at
 decreases-loop out words end count₀ at₀ count at = end - at
 
 -- the words that are there, of those that are to be looked at
-module _ (c : tie.After-least invariant-loop decreases-loop) where
+module _ (c : tie.After-least-end invariant-loop decreases-loop) where
   abbrev lent : List ℤ
-  lent = c.before.args.out.now
+  lent = c.args.out.now
 
-  there : c.least.result ≤ length lent
-  there = omega (arith, c.least.ensures)
+  there : c.least-end.result ≤ length lent
+  there = omega (arith, c.least-end.ensures)
 
-  all : take c.least.result lent ≡ take c.before.args.words lent
-  all = ap (λ (n : ℕ). take n lent) c.least.ensures ∙ take-least c.before.args.words (length lent) lent refl
+  all : take c.least-end.result lent ≡ take c.args.words lent
+  all = ap (λ (n : ℕ). take n lent) c.least-end.ensures ∙ take-least c.args.words (length lent) lent refl
 
 -- the size of the record at this word
-sized : (c : tie.After-size invariant-loop decreases-loop) →
-    c.size.result ≡ size_of
-    (get_or (lent c.before.before.before.before) c.before.before.before.loop.at (pos 0))
+sized : (c : tie.After-size-at invariant-loop decreases-loop) →
+    c.size-at.result ≡ size_of
+    (get_or (lent c.before.before.before.before) c.loop-at.at (pos 0))
 sized c =
-    let f : SFits w32 (get_or (lent c.before.before.before.before) c.before.before.before.loop.at (pos 0)) =
+    let f : SFits w32 (get_or (lent c.before.before.before.before) c.loop-at.at (pos 0)) =
     search rules in
-    c.size.ensures.0 ∙ ap size_of (to_z-of_z f)
+    c.size-at.ensures.0 ∙ ap size_of (to_z-of_z f)
 
-least-requires : tie.Need-least-requires invariant-loop decreases-loop
+least-requires : tie.Need-least-end-requires invariant-loop decreases-loop
 least-requires c κs = search rules
 
-loop-holds : tie.Need-loop-init invariant-loop decreases-loop
+loop-holds : tie.Need-loop-at-init invariant-loop decreases-loop
 loop-holds c = (omega (arith, ap records_in (all c)), (omega arith, omega arith))
 
-mul-size : tie.Need-overflow-mul-size invariant-loop decreases-loop
+mul-size : tie.Need-offset_bounds-out-at invariant-loop decreases-loop
 mul-size c = omega (arith, there c.before.before)
 
-shared-slice-copy-out-size : tie.Need-shared-slice-copy-out-size invariant-loop decreases-loop
+shared-slice-copy-out-size : tie.Need-bounds-out-at invariant-loop decreases-loop
 shared-slice-copy-out-size c = omega (arith, there c.before.before)
 
-size-requires : tie.Need-size-requires invariant-loop decreases-loop
+size-requires : tie.Need-size-at-requires invariant-loop decreases-loop
 size-requires c κs = search rules
 
-add_at : tie.Need-overflow-add-at invariant-loop decreases-loop
+add_at : tie.Need-overflow_add-at invariant-loop decreases-loop
 add_at c = omega (arith, there c.before.before.before.before)
 
-add-count : tie.Need-overflow-add-count invariant-loop decreases-loop
+add-count : tie.Need-overflow_add-count invariant-loop decreases-loop
 add-count c = omega (arith, there c.before.before.before.before)
 
-loop-less : tie.Need-loop-smaller invariant-loop decreases-loop
+loop-less : tie.Need-loop-at-smaller invariant-loop decreases-loop
 loop-less c =
     omega (
       arith,
       sized c,
       sizes
-          (get_or (lent c.before.before.before.before) c.before.before.before.loop.at (pos 0)),
+          (get_or (lent c.before.before.before.before) c.loop-at.at (pos 0)),
     )
 
-loop-again : tie.Need-loop-preserved invariant-loop decreases-loop
+loop-again : tie.Need-loop-at-preserved invariant-loop decreases-loop
 loop-again c =
     let l = c.before.before.before in
     let o = lent l.before in
-    let end = l.before.least.result in
+    let end = l.least-end.result in
     let ws = take end o in
     let n : length ws ≡ end = length-take-le end o (there l.before) in
-    let k = sized c ∙ sym (ap size_of (get_or-take end o l.loop.at (pos 0) c.before.before.loop-test.true)) in
-    let s = count-step ws l.loop.at (omega (arith, n)) ∙
-    ap (λ (r : ℕ). suc (records_in (drop (l.loop.at + r) ws))) (sym k) in
-    let z = sizes (get_or o l.loop.at (pos 0)) in
-    (omega (arith, l.loop.invariant.0, s), (omega (arith, l.loop.invariant.1.0, sized c, z), omega (arith, sized c, z)))
+    let k = sized c ∙ sym (ap size_of (get_or-take end o l.loop-at.at (pos 0) c.loop-at-test.true)) in
+    let s = count-step ws l.loop-at.at (omega (arith, n)) ∙
+    ap (λ (r : ℕ). suc (records_in (drop (l.loop-at.at + r) ws))) (sym k) in
+    let z = sizes (get_or o l.loop-at.at (pos 0)) in
+    (omega (arith, l.loop-at.invariant.0, s), (omega (arith, l.loop-at.invariant.1.0, sized c, z), omega (arith, sized c, z)))
 
 returns : tie.Need-returns invariant-loop decreases-loop
 returns c =
     let l = c.before in
-    let end = l.before.least.result in
+    let end = l.least-end.result in
     let e = length-take-le end (lent l.before) (there l.before) in
-    omega (arith, l.loop.invariant.0, count-end (take end (lent l.before)) l.loop.at (omega (arith, e)))
+    omega (arith, l.loop-at.invariant.0, count-end (take end (lent l.before)) l.loop-at.at (omega (arith, e)))
 
-pub count-records-spec : {M : Type 1} → statement M
-count-records-spec =
+pub count_records_spec : {M : Type 1} → statement M
+count_records_spec =
     tie.close
     (tie.spec
     invariant-loop

@@ -27,171 +27,171 @@ use Rattle.script.proofs.whole.run_script.Statement.{statement}
 use Rattle.script.proofs.whole.run_script.Tie as tie
 
 -- a script without a fault passes all tests
-no-fault : (c : tie.Else1) →
-    refuses (first_of (check_rows c.before.before.before.before.args.script.now)) ≡ false
+no-fault : (c : tie.Else-code-ne0) →
+    refuses (first_of (check_rows c.args.script.now)) ≡ false
 no-fault c =
-    taken (first_of (check_rows c.before.before.before.before.args.script.now))
-    (omega (arith, ap number_of c.before.before.check-script.ensures, c.before.code.ensures, c.if1.false))
+    taken (first_of (check_rows c.args.script.now))
+    (omega (arith, ap number_of c.check_script-fault.ensures, c.code.ensures, c.if-code-ne0.false))
 
-all-ok : (c : tie.Else1) → first_of (check_rows c.before.before.before.before.args.script.now) ≡ Ok
-all-ok c = not-refused (first_of (check_rows c.before.before.before.before.args.script.now)) (no-fault c)
+all-ok : (c : tie.Else-code-ne0) → first_of (check_rows c.args.script.now) ≡ Ok
+all-ok c = not-refused (first_of (check_rows c.args.script.now)) (no-fault c)
 
 -- the run, over the words behind the header
-module _ (c : tie.After-run-commands) where
-  abbrev begun : tie.Else1
+module _ (c : tie.After-run_commands-ran) where
+  abbrev begun : tie.Else-code-ne0
   begun = c.before.before.before
 
   abbrev script : List ℕ
-  script = begun.before.before.before.before.args.script.now
+  script = begun.args.script.now
 
   abbrev out : List ℤ
-  out = begun.before.before.before.before.args.out.now
+  out = begun.args.out.now
 
   enough : 4 ≤ length out
-  enough = omega (arith, c.before.before.if2.false)
+  enough = omega (arith, c.if-out-lt-RESULT_HEADER.false)
 
   abbrev fit : Fitted
   fit = ran script out (no-fault begun) enough
 
-  ended : Ended (ending_of fit (drop 4 out)) c.run-commands.result c.run-commands.new.1.0
-  ended = rw lent at c.run-commands.ensures
+  ended : Ended (ending_of fit (drop 4 out)) c.run_commands-ran.result c.run_commands-ran.new.1.0
+  ended = rw lent at c.run_commands-ran.ensures
 
-  answer-is : c.run-commands.result.answer ≡ fit.said
+  answer-is : c.run_commands-ran.result.answer ≡ fit.said
   answer-is = says_is ended.answer
 
-  words_are : c.run-commands.result.words ≡ length fit.words
+  words_are : c.run_commands-ran.result.words ≡ length fit.words
   words_are = ended.words
 
   abbrev mid : List ℤ
-  mid = put_mid 4 (length out - 4) out c.run-commands.new.1.0
+  mid = put_mid 4 (length out - 4) out c.run_commands-ran.new.1.0
 
   mid-length : length mid ≡ length out
-  mid-length = same_len_mid 4 (length out - 4) out c.run-commands.new.1.0 c.run-commands.auto.1.0
+  mid-length = same_len_mid 4 (length out - 4) out c.run_commands-ran.new.1.0 c.run_commands-ran.auto.1.0
 
   home : mid ≡ take 4 out ++ written fit.words (drop 4 out)
-  home = back 4 out c.run-commands.new.1.0 ∙ ap (λ (l : List ℤ). take 4 out ++ l) ended.memory
+  home = back 4 out c.run_commands-ran.new.1.0 ∙ ap (λ (l : List ℤ). take 4 out ++ l) ended.memory
 
   few : length fit.words ≤ 163840
   few = short script (length (drop 4 out)) (passed script (all-ok begun))
 
 -- the records that were counted
-counted : (c : tie.After-count-records) →
-    c.count-records.result ≡ records_in (fit c.before.before.before.before.before.before).words
+counted : (c : tie.After-count_records-records) →
+    c.count_records-records.result ≡ records_in (fit c.before.before.before.before.before).words
 counted c =
-    let r = c.before.before.before.before.before.before in
-    c.count-records.ensures ∙
-    ap records_in (ap (take r.run-commands.result.words) (lent (mid r) 4 ∙ ap (drop 4) (home r)) ∙
+    let r = c.before.before.before.before.before in
+    c.count_records-records.ensures ∙
+    ap records_in (ap (take r.run_commands-ran.result.words) (lent (mid r) 4 ∙ ap (drop 4) (home r)) ∙
     ap (λ (k : ℕ). take k (drop 4 (take 4 (out r) ++ written (fit r).words (drop 4 (out r))))) (words_are r) ∙
     behind (fit r).words (out r) (enough r))
 
-check-script-requires : tie.Need-check-script-requires
+check-script-requires : tie.Need-check_script-fault-requires
 check-script-requires c κs = search rules
 
 code-requires : tie.Need-code-requires
 code-requires c κs = search rules
 
-returns : tie.Need-returns
+returns : tie.Need-returns-then-code-ne0
 returns c =
-    let k = c.before.before in
-    let s = k.before.before.args in
-    let n = ap number_of k.check-script.ensures in
+    let k = c in
+    let s = k.args in
+    let n = ap number_of k.check_script-fault.ensures in
     subst (λ (a : Answer). Scripted (script_of s.script.now s.out.now) a s.out.now)
-    (sym k.check-script.ensures)
+    (sym k.check_script-fault.ensures)
     (by-fault s.script.now s.out.now
-    (refused (first_of (check_rows s.script.now)) (omega (arith, n, c.before.code.ensures, c.if1.true))))
+    (refused (first_of (check_rows s.script.now)) (omega (arith, n, c.code.ensures, c.if-code-ne0.true))))
 
 natural-requires : tie.Need-natural-requires
 natural-requires c κs = omega (arith, (passed _ (all-ok c.before)).fine.enough)
 
-returns-2 : tie.Need-returns-2
+returns-2 : tie.Need-returns-then-out-lt-RESULT_HEADER
 returns-2 c =
     let e = c.before.before in
-    let s = e.before.before.before.before.args in
-    rw c.natural.ensures.0 (by_size s.script.now s.out.now (no-fault e) c.before.if2.true)
+    let s = e.args in
+    rw c.natural.ensures.0 (by_size s.script.now s.out.now (no-fault e) c.if-out-lt-RESULT_HEADER.true)
 
-sub-run-commands : tie.Need-overflow-sub-run-commands
+sub-run-commands : tie.Need-slice_bounds-run_commands-count
 sub-run-commands c = search rules
 
-part-run-commands-start : tie.Need-slice-bounds-run-commands-start
+part-run-commands-start : tie.Need-slice_bounds-run_commands-start
 part-run-commands-start c = search rules
 
-part-run-commands-end : tie.Need-slice-bounds-run-commands-end
+part-run-commands-end : tie.Need-slice_bounds-run_commands-end
 part-run-commands-end c = search rules
 
-run-commands-requires : tie.Need-run-commands-requires
+run-commands-requires : tie.Need-run_commands-ran-requires
 run-commands-requires c κs = all-ok c.before.before
 
 code-requires-2 : tie.Need-code-requires-2
 code-requires-2 c κs = search rules
 
-same_length : tie.Need-same-length
+same_length : tie.Need-shape_of-out-then-code-ne0-2
 same_length c = search rules
 
-returns-3 : tie.Need-returns-3
+returns-3 : tie.Need-returns-then-code-ne0-2
 returns-3 c =
     let r = c.before.before.before in
     let n = ap number_of (answer-is r) in
     rw (answer-is r, home r)
     (by-room (script r) (out r) (no-fault (begun r)) (enough r)
-    (refused (fit r).said (omega (arith, n, c.before.code2.ensures, c.if3.true))))
+    (refused (fit r).said (omega (arith, n, c.code-2.ensures, c.if-code-ne0-2.true))))
 
-sub-count-records : tie.Need-overflow-sub-count-records
+sub-count-records : tie.Need-slice_bounds-count_records-count
 sub-count-records c = search rules
 
-part-count-records-start : tie.Need-slice-bounds-count-records-start
+part-count-records-start : tie.Need-slice_bounds-count_records-start
 part-count-records-start c = search rules
 
-part-count-records-end : tie.Need-slice-bounds-count-records-end
+part-count-records-end : tie.Need-slice_bounds-count_records-end
 part-count-records-end c = search rules
 
-count-records-requires : tie.Need-count-records-requires
+count-records-requires : tie.Need-count_records-records-requires
 count-records-requires c κs = search rules
 
-cast-seal : tie.Need-overflow-cast-seal
+cast-seal : tie.Need-overflow_cast-records
 cast-seal c =
     record {
       fits = omega (
         arith,
         counted c.before,
-        few-records (fit c.before.before.before.before.before.before.before).words,
-        few c.before.before.before.before.before.before.before,
+        few-records (fit c.before.before.before.before.before.before).words,
+        few c.before.before.before.before.before.before,
       );
     }
 
-cast-seal-2 : tie.Need-overflow-cast-seal-2
+cast-seal-2 : tie.Need-overflow_cast-ran
 cast-seal-2 c =
     record {
       fits = omega (
         arith,
-        words_are c.before.before.before.before.before.before.before.before,
-        few c.before.before.before.before.before.before.before.before,
+        words_are c.before.before.before.before.before.before.before,
+        few c.before.before.before.before.before.before.before,
       );
     }
 
 seal-requires : tie.Need-seal-requires
 seal-requires c κs =
     let k = c.before.before in
-    let r = k.before.before.before.before.before.before in (
+    let r = k.before.before.before.before.before in (
       omega (arith, mid-length r, enough r),
       (omega (arith, counted k, few-records (fit r).words, few r), omega (arith, words_are r, few r)),
     )
 
-same-length-2 : tie.Need-same-length-2
+same-length-2 : tie.Need-shape_of-out
 same-length-2 c = search rules
 
-returns-4 : tie.Need-returns-4
+returns-4 : tie.Need-returns
 returns-4 c =
     let k = c.before.before.before.before in
-    let r = k.before.before.before.before.before.before in
-    let e = k.before.before.before in
-    let ok = taken (fit r).said (omega (arith, ap number_of (answer-is r), e.before.code2.ensures, e.if3.false)) in
+    let r = k.before.before.before.before.before in
+    let e = k in
+    let ok = taken (fit r).said (omega (arith, ap number_of (answer-is r), e.code-2.ensures, e.if-code-ne0-2.false)) in
     let ws = (fit r).words in
     let b = by-run (script r) (out r) (no-fault (begun r)) (enough r) ok in
     record {
       answer = says (sym (not-refused (fit r).said ok) ∙ says_is b.answer);
       memory =
-          c.before.seal.ensures ∙
-          ap (λ (n : ℕ). written (pos 1 ∷ pos n ∷ pos 4 ∷ pos r.run-commands.result.words ∷ []) (mid r))
+          c.seal.ensures ∙
+          ap (λ (n : ℕ). written (pos 1 ∷ pos n ∷ pos 4 ∷ pos r.run_commands-ran.result.words ∷ []) (mid r))
           (counted k) ∙
           ap (λ (n : ℕ). written (pos 1 ∷ pos (records_in ws) ∷ pos 4 ∷ pos n ∷ []) (mid r)) (words_are r) ∙
           ap (written (pos 1 ∷ pos (records_in ws) ∷ pos 4 ∷ pos (length ws) ∷ [])) (home r) ∙
@@ -199,8 +199,8 @@ returns-4 c =
           b.memory;
     }
 
-pub run-script-spec : {M : Type 1} → statement M
-run-script-spec =
+pub run_script_spec : {M : Type 1} → statement M
+run_script_spec =
     tie.close
     (tie.spec
     check-script-requires

@@ -21,25 +21,25 @@ four (w ∷ x ∷ []) a b c d h = absurd (omega arith)
 four (w ∷ x ∷ y ∷ []) a b c d h = absurd (omega arith)
 four (w ∷ x ∷ y ∷ z ∷ rest) a b c d h = refl
 
-slice-set-of-out : tie.Need-slice-set-of-out
+slice-set-of-out : tie.Need-slice_set_of-out
 slice-set-of-out c = search rules
 
-cast-out : tie.Need-overflow-cast-out
+cast-out : tie.Need-overflow_cast-out
 cast-out c = search rules
 
-slice-set-from-out : tie.Need-slice-set-from-out
+slice-set-from-out : tie.Need-bounds-out-1
 slice-set-from-out c = simp length-set (omega arith)
 
-slice-set-of-out-2 : tie.Need-slice-set-of-out-2
+slice-set-of-out-2 : tie.Need-slice_set_of-out-2
 slice-set-of-out-2 c = simp length-set (omega arith)
 
-cast-out-2 : tie.Need-overflow-cast-out-2
+cast-out-2 : tie.Need-overflow_cast-out-2
 cast-out-2 c = search rules
 
-slice-set-from-out-2 : tie.Need-slice-set-from-out-2
+slice-set-from-out-2 : tie.Need-bounds-out-3
 slice-set-from-out-2 c = search rules
 
-same_length : tie.Need-same-length
+same_length : tie.Need-shape_of-out
 same_length c = search rules
 
 returns : tie.Need-returns
@@ -49,8 +49,8 @@ returns c =
     let b : c.args.words < 2147483648 = omega arith in
     simp (to_z_pos w32 a, to_z_pos w32 b) (four c.args.out.now _ _ _ _ c.requires.0)
 
-pub seal-spec : {M : Type 1} → statement M
-seal-spec =
+pub seal_spec : {M : Type 1} → statement M
+seal_spec =
     tie.close
     (tie.spec
     slice-set-of-out

@@ -10,17 +10,17 @@ use Rattle.fixed.proofs.Bits.{wrap-id}
 use Rattle.writer.proofs.param_words.number_or_zero.Statement.{statement}
 use Rattle.writer.proofs.param_words.number_or_zero.Tie as tie
 
-word-or-zero-requires : tie.Need-word-or-zero-requires
+word-or-zero-requires : tie.Need-word_or_zero-bits-requires
 word-or-zero-requires c κs = search rules
 
-fits : (c : tie.After-word-or-zero) → SFits w32 c.word-or-zero.result
+fits : (c : tie.After-word_or_zero-bits) → SFits w32 c.word_or_zero-bits.result
 fits c = search rules
 
 returns : tie.Need-returns
 unfolding wrap32
 returns c =
     ap from_bits
-    (to_z-of_z (fits c) ∙ sym (wrap-id c.word-or-zero.result (fits c)) ∙ ap wrap32 c.word-or-zero.ensures)
+    (to_z-of_z (fits c) ∙ sym (wrap-id c.word_or_zero-bits.result (fits c)) ∙ ap wrap32 c.word_or_zero-bits.ensures)
 
-pub number-or-zero-spec : {M : Type 1} → statement M
-number-or-zero-spec = tie.close (tie.spec word-or-zero-requires returns)
+pub number_or_zero_spec : {M : Type 1} → statement M
+number_or_zero_spec = tie.close (tie.spec word-or-zero-requires returns)

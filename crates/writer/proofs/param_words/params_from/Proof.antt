@@ -11,52 +11,52 @@ use borrow.Author.Rules.{rules}
 use Rattle.writer.proofs.param_words.params_from.Statement.{statement}
 use Rattle.writer.proofs.param_words.params_from.Tie as tie
 
-number-or-zero-requires : tie.Need-number-or-zero-requires
+number-or-zero-requires : tie.Need-number_or_zero-requires
 number-or-zero-requires c κs = search rules
 
-number-or-zero-requires-2 : tie.Need-number-or-zero-requires-2
+number-or-zero-requires-2 : tie.Need-number_or_zero-requires-2
 number-or-zero-requires-2 c κs = search rules
 
-number-or-zero-requires-3 : tie.Need-number-or-zero-requires-3
+number-or-zero-requires-3 : tie.Need-number_or_zero-requires-3
 number-or-zero-requires-3 c κs = search rules
 
-word-or-zero-requires : tie.Need-word-or-zero-requires
+word-or-zero-requires : tie.Need-word_or_zero-requires
 word-or-zero-requires c κs = search rules
 
-blues-from-requires : tie.Need-blues-from-requires
+blues-from-requires : tie.Need-blues_from-requires
 blues-from-requires c κs = search rules
 
-add-blues-from : tie.Need-overflow-add-blues-from
+add-blues-from : tie.Need-overflow_add-blues_from
 add-blues-from c = search rules
 
-add-blues-from-2 : tie.Need-overflow-add-blues-from-2
+add-blues-from-2 : tie.Need-overflow_add-blues_from-2
 add-blues-from-2 c = search rules
 
-blues-from-requires-2 : tie.Need-blues-from-requires-2
+blues-from-requires-2 : tie.Need-blues_from-requires-2
 blues-from-requires-2 c κs = search rules
 
-mul-blues-from : tie.Need-overflow-mul-blues-from
+mul-blues-from : tie.Need-overflow_mul-blues_from
 mul-blues-from c = search rules
 
-add-blues-from-3 : tie.Need-overflow-add-blues-from-3
+add-blues-from-3 : tie.Need-overflow_add-blues_from-3
 add-blues-from-3 c = search rules
 
-add-blues-from-4 : tie.Need-overflow-add-blues-from-4
+add-blues-from-4 : tie.Need-overflow_add-blues_from-4
 add-blues-from-4 c = search rules
 
-blues-from-requires-3 : tie.Need-blues-from-requires-3
+blues-from-requires-3 : tie.Need-blues_from-requires-3
 blues-from-requires-3 c κs = search rules
 
-mul-blues-from-2 : tie.Need-overflow-mul-blues-from-2
+mul-blues-from-2 : tie.Need-overflow_mul-blues_from-2
 mul-blues-from-2 c = search rules
 
-add-blues-from-5 : tie.Need-overflow-add-blues-from-5
+add-blues-from-5 : tie.Need-overflow_add-blues_from-5
 add-blues-from-5 c = search rules
 
-add-blues-from-6 : tie.Need-overflow-add-blues-from-6
+add-blues-from-6 : tie.Need-overflow_add-blues_from-6
 add-blues-from-6 c = search rules
 
-blues-from-requires-4 : tie.Need-blues-from-requires-4
+blues-from-requires-4 : tie.Need-blues_from-requires-4
 blues-from-requires-4 c κs = search rules
 
 returns : tie.Need-returns
@@ -68,23 +68,23 @@ returns c =
     let w = b1.before in
     let n3 = w.before in
     let n2 = n3.before in
-    let n : SFits w32 w.word-or-zero.result = search rules in
-    let g : w.word-or-zero.result ≡ word_at (given_word n2.before.before.args.words.now) 3 =
-    sym (wrap-id w.word-or-zero.result n) ∙ ap wrap32 w.word-or-zero.ensures in
+    let n : SFits w32 w.word_or_zero.result = search rules in
+    let g : w.word_or_zero.result ≡ word_at (given_word n2.args.words.now) 3 =
+    sym (wrap-id w.word_or_zero.result n) ∙ ap wrap32 w.word_or_zero.ensures in
     rw (
-      sym n2.before.number-or-zero.ensures,
-      sym n2.number-or-zero2.ensures,
-      sym n3.number-or-zero3.ensures,
+      sym n2.number_or_zero.ensures,
+      sym n2.number_or_zero-2.ensures,
+      sym n3.number_or_zero-3.ensures,
       sym g,
-      sym b1.blues-from.ensures,
-      sym b2.blues-from2.ensures,
-      sym b3.blues-from3.ensures,
-      sym c.blues-from4.ensures,
+      sym b1.blues_from.ensures,
+      sym b2.blues_from-2.ensures,
+      sym b3.blues_from-3.ensures,
+      sym c.blues_from-4.ensures,
       to_z-of_z n,
     )
 
-pub params-from-spec : {M : Type 1} → statement M
-params-from-spec =
+pub params_from_spec : {M : Type 1} → statement M
+params_from_spec =
     tie.close
     (tie.spec
     number-or-zero-requires

@@ -6,17 +6,17 @@ use borrow.Author.Rules.{rules}
 use Rattle.writer.proofs.param_words.word_or_zero.Statement.{statement}
 use Rattle.writer.proofs.param_words.word_or_zero.Tie as tie
 
-mul-result : tie.Need-overflow-mul-result
+mul-result : tie.Need-offset_bounds-words-i
 mul-result c = search rules
 
-shared-slice-copy-out-result : tie.Need-shared-slice-copy-out-result
+shared-slice-copy-out-result : tie.Need-bounds-words-i
 shared-slice-copy-out-result c = search rules
 
-returns : tie.Need-returns
+returns : tie.Need-returns-then-i-words
 returns c = search rules
 
-returns-2 : tie.Need-returns-2
-returns-2 c = sym (get_or-eq_default c.before.args.words.now (pos 0) c.if1.false)
+returns-2 : tie.Need-returns
+returns-2 c = sym (get_or-eq_default c.args.words.now (pos 0) c.if-i-words.false)
 
-pub word-or-zero-spec : {M : Type 1} → statement M
-word-or-zero-spec = tie.close (tie.spec mul-result shared-slice-copy-out-result returns returns-2)
+pub word_or_zero_spec : {M : Type 1} → statement M
+word_or_zero_spec = tie.close (tie.spec mul-result shared-slice-copy-out-result returns returns-2)

@@ -10,25 +10,25 @@ use Rattle.writer.proofs.parts.count_params.Tie as tie
 sevens : (s : tie.Start) → Sevens s.args.params
 sevens s =
     record {
-      blues = simp length-map at s.well-formed.0.1.1.1.1.1.1.0.1.1.0.1.0.1;
-      others = simp length-map at s.well-formed.0.1.1.1.1.1.1.1.0.1.1.0.1.0.1;
-      family = simp length-map at s.well-formed.0.1.1.1.1.1.1.1.1.0.1.1.0.1.0.1;
-      family_others = simp length-map at s.well-formed.0.1.1.1.1.1.1.1.1.1.0.1.1.0.1.0.1;
+      blues = s.well_formed.0.1.1.1.1.1.1.0.1.1.0.1.0.1;
+      others = s.well_formed.0.1.1.1.1.1.1.1.0.1.1.0.1.0.1;
+      family = s.well_formed.0.1.1.1.1.1.1.1.1.0.1.1.0.1.0.1;
+      family_others = s.well_formed.0.1.1.1.1.1.1.1.1.1.0.1.1.0.1.0.1;
     }
 
-add-result : tie.Need-overflow-add-result
+add-result : tie.Need-overflow_add-result
 add-result c = search rules
 
-add-result-2 : tie.Need-overflow-add-result-2
+add-result-2 : tie.Need-overflow_add-result-2
 add-result-2 c = search rules
 
-add-result-3 : tie.Need-overflow-add-result-3
+add-result-3 : tie.Need-overflow_add-result-3
 add-result-3 c = search rules
 
-mul-result : tie.Need-overflow-mul-result
+mul-result : tie.Need-overflow_mul-result
 mul-result c = search rules
 
-add-result-4 : tie.Need-overflow-add-result-4
+add-result-4 : tie.Need-overflow_add-result-4
 add-result-4 c = search rules
 
 returns : tie.Need-returns
@@ -37,6 +37,6 @@ returns c =
     let e = params-length s.args.params (sevens s) s.requires in
     (sym e, omega (arith, s.requires.blues, s.requires.others, s.requires.family, s.requires.family_others))
 
-pub count-params-spec : {M : Type 1} → statement M
-count-params-spec =
+pub count_params_spec : {M : Type 1} → statement M
+count_params_spec =
     tie.close (tie.spec add-result add-result-2 add-result-3 mul-result add-result-4 returns)

@@ -19,17 +19,17 @@ use Rattle.writer.proofs.Walking.{left-none, left-first, stored-words, turned}
 use Rattle.writer.proofs.parts.store_commands.Statement.{statement}
 use Rattle.writer.proofs.parts.store_commands.Tie as tie
 
-abbrev invariant-loop : tie.invariant-loop
+abbrev invariant-loop : tie.invariant-loop-at
 invariant-loop script₀ first commands start₀ to₀ at₀ script start to at =
     (laid script to (left (map bits_of commands) at start) ≡ laid script₀ first (command_words commands)) ×
     (Sound (map bits_of commands) at start ×
     ((4 * (to + length (left (map bits_of commands) at start)) ≤ length script) × (length script ≡ length script₀)))
 
-abbrev decreases-loop : tie.decreases-loop
+abbrev decreases-loop : tie.decreases-loop-at
 decreases-loop script₀ first commands start₀ to₀ at₀ script start to at = length commands - at
 
 -- the turn at a piece
-module _ (c : tie.In-loop invariant-loop decreases-loop) where
+module _ (c : tie.In-loop-at invariant-loop decreases-loop) where
   abbrev begin : tie.Start invariant-loop decreases-loop
   begin = c.before.before.before
 
@@ -37,13 +37,13 @@ module _ (c : tie.In-loop invariant-loop decreases-loop) where
   words = map bits_of begin.args.commands.now
 
   abbrev at : ℕ
-  at = c.before.loop.at
+  at = c.loop-at.at
 
   abbrev start : ℕ
-  start = c.before.loop.start
+  start = c.loop-at.start
 
   abbrev sound : Sound words at start
-  sound = c.before.loop.invariant.1.0
+  sound = c.loop-at.invariant.1.0
 
   many : length words ≡ length begin.args.commands.now
   many = length-map begin.args.commands.now bits_of
@@ -52,7 +52,7 @@ module _ (c : tie.In-loop invariant-loop decreases-loop) where
   there = omega (arith, many)
 
   -- its words have room, and so have those behind it
-  room : 4 * (c.before.loop.to + length (piece_words (started start (piece_at words at))) +
+  room : 4 * (c.loop-at.to + length (piece_words (started start (piece_at words at))) +
       length (left words (next_piece words at) (start + bytes_taken (piece_at words at)))) ≤
       length begin.args.script.now
   room =
@@ -60,8 +60,8 @@ module _ (c : tie.In-loop invariant-loop decreases-loop) where
       let q = left words (next_piece words at) (start + bytes_taken (piece_at words at)) in
       omega (
         arith,
-        c.before.loop.invariant.1.1.0,
-        c.before.loop.invariant.1.1.1,
+        c.loop-at.invariant.1.1.0,
+        c.loop-at.invariant.1.1.1,
         ap length (left-first words at start there),
         length-append p q,
       )
@@ -71,106 +71,106 @@ module _ (c : tie.In-loop invariant-loop decreases-loop) where
 
 -- after the operands are counted
 module _ (c : tie.After-operands invariant-loop decreases-loop) where
-  abbrev turn : tie.In-loop invariant-loop decreases-loop
+  abbrev turn : tie.In-loop-at invariant-loop decreases-loop
   turn = c.before.before.before.before.before.before.before
 
   operands : c.operands.result ≡ operands_of (get_or (words turn) (at turn) 0)
   operands =
       c.operands.ensures.0 ∙
-      ap operands_of c.before.before.before.before.before.before.given-natural.ensures.0
+      ap operands_of c.given_natural-kind.ensures.0
 
-  taken : c.before.bytes-taken.result ≡ bytes_taken (piece_at (words turn) (at turn))
-  taken = c.before.bytes-taken.ensures.0
+  taken : c.bytes_taken-start.result ≡ bytes_taken (piece_at (words turn) (at turn))
+  taken = c.bytes_taken-start.ensures.0
 
-loop-holds : tie.Need-loop-init invariant-loop decreases-loop
+loop-holds : tie.Need-loop-at-init invariant-loop decreases-loop
 loop-holds c =
-    let a = c.before.args in
+    let a = c.args in
     let e = left-all a.commands.now in (
       ap (laid a.script.now a.first) (sym e),
       (
-        sound-first a.commands.now c.before.requires.1,
-        (omega (arith, c.before.requires.0, ap length e), omega arith),
+        sound-first a.commands.now c.requires.1,
+        (omega (arith, c.requires.0, ap length e), omega arith),
       ),
     )
 
-given-natural-requires : tie.Need-given-natural-requires invariant-loop decreases-loop
+given-natural-requires : tie.Need-given_natural-kind-requires invariant-loop decreases-loop
 given-natural-requires c κs = search rules
 
-cast-store-piece : tie.Need-overflow-cast-store-piece invariant-loop decreases-loop
+cast-store-piece : tie.Need-overflow_cast-start invariant-loop decreases-loop
 cast-store-piece c =
     let s = sound c.before.before in
-    omega (arith, s.taken, s.few)
+    omega (arith, s.true, s.few)
 
-store-piece-requires : tie.Need-store-piece-requires invariant-loop decreases-loop
+store-piece-requires : tie.Need-store_piece-requires invariant-loop decreases-loop
 store-piece-requires c κs =
     let t = c.before.before in (
       omega (arith, many t, sound-there (words t) (at t) (start t) (there t) (sound t)),
-      omega (arith, room t, t.before.loop.invariant.1.1.1),
+      omega (arith, room t, t.loop-at.invariant.1.1.1),
     )
 
-bytes-taken-requires : tie.Need-bytes-taken-requires invariant-loop decreases-loop
+bytes-taken-requires : tie.Need-bytes_taken-start-requires invariant-loop decreases-loop
 bytes-taken-requires c κs = search rules
 
-add_start : tie.Need-overflow-add-start invariant-loop decreases-loop
+add_start : tie.Need-overflow_add-start invariant-loop decreases-loop
 add_start c =
     let t = c.before.before.before.before.before.before in
-    omega (arith, c.bytes-taken.ensures.1, (sound t).taken, (sound t).few)
+    omega (arith, c.bytes_taken-start.ensures.1, (sound t).true, (sound t).few)
 
-add-to : tie.Need-overflow-add-to invariant-loop decreases-loop
+add-to : tie.Need-overflow_add-to invariant-loop decreases-loop
 add-to c =
     let t = c.before.before.before.before.before.before in
-    omega (arith, room t, (begin t).well-formed)
+    omega (arith, room t, (begin t).well_formed)
 
 operands-requires : tie.Need-operands-requires invariant-loop decreases-loop
 operands-requires c κs = search rules
 
-add-to-2 : tie.Need-overflow-add-to-2 invariant-loop decreases-loop
+add-to-2 : tie.Need-overflow_add-to-in-loop-at invariant-loop decreases-loop
 add-to-2 c = omega (arith, room (turn c), (begin (turn c)).good, c.operands.ensures.1)
 
-add_at : tie.Need-overflow-add-at invariant-loop decreases-loop
+add_at : tie.Need-overflow_add-at invariant-loop decreases-loop
 add_at c = search rules
 
-given-operands-requires : tie.Need-given-operands-requires invariant-loop decreases-loop
+given-operands-requires : tie.Need-given_operands-requires invariant-loop decreases-loop
 given-operands-requires c κs = search rules
 
-add-at-2 : tie.Need-overflow-add-at-2 invariant-loop decreases-loop
+add-at-2 : tie.Need-overflow_add-at-in-loop-at invariant-loop decreases-loop
 add-at-2 c = search rules
 
-loop-less : tie.Need-loop-smaller invariant-loop decreases-loop
+loop-less : tie.Need-loop-at-smaller invariant-loop decreases-loop
 loop-less c = omega arith
 
-loop-again : tie.Need-loop-preserved invariant-loop decreases-loop
+loop-again : tie.Need-loop-at-preserved invariant-loop decreases-loop
 loop-again c =
     let o = c.before in
     let t = turn o in
-    let l = t.before.loop in
-    let s = o.before.before.before.before in
-    let g = c.given-operands.ensures.0 ∙ ap given_operands s.before.before.given-natural.ensures.0 in
-    let n = turned (words t) (at t) (start t) (there t) (sound t) l.script s.store-piece.new.0
+    let l = t.loop-at in
+    let s = o in
+    let g = c.given_operands.ensures.0 ∙ ap given_operands s.given_natural-kind.ensures.0 in
+    let n = turned (words t) (at t) (start t) (there t) (sound t) l.script s.store_piece.new.0
     (laid (begin t).args.script.now (begin t).args.first (command_words (begin t).args.commands.now)) l.to
-    o.operands.result c.given-operands.result o.before.bytes-taken.result (operands o) g (taken o)
-    s.store-piece.ensures l.inv.1.1.0 l.inv.0 in (
+    o.operands.result c.given_operands.result o.bytes_taken-start.result (operands o) g (taken o)
+    s.store_piece.ensures l.invariant.1.1.0 l.invariant.0 in (
       n.0,
       (
         n.1.0,
-        (omega (arith, n.1.1, s.store-piece.auto), omega (arith, s.store-piece.auto, l.inv.1.1.1)),
+        (omega (arith, n.1.1, s.store_piece.auto), omega (arith, s.store_piece.auto, l.invariant.1.1.1)),
       ),
     )
 
-same_length : tie.Need-same-length invariant-loop decreases-loop
-same_length c = c.before.loop.invariant.1.1.1
+same_length : tie.Need-shape_of-script invariant-loop decreases-loop
+same_length c = c.loop-at.invariant.1.1.1
 
 returns : tie.Need-returns invariant-loop decreases-loop
 returns c =
-    let l = c.before in
-    let a = l.before.before.args in
+    let l = c in
+    let a = l.args in
     let ws = map bits_of a.commands.now in
-    let e = left-none ws l.loop.at l.loop.start (omega (arith, length-map a.commands.now bits_of)) in
-    sym (laid_none l.loop.script l.loop.to) ∙ ap (laid l.loop.script l.loop.to) (sym e) ∙
-    l.loop.invariant.0
+    let e = left-none ws l.loop-at.at l.loop-at.start (omega (arith, length-map a.commands.now bits_of)) in
+    sym (laid_none l.loop-at.script l.loop-at.to) ∙ ap (laid l.loop-at.script l.loop-at.to) (sym e) ∙
+    l.loop-at.invariant.0
 
-pub store-commands-spec : {M : Type 1} → statement M
-store-commands-spec =
+pub store_commands_spec : {M : Type 1} → statement M
+store_commands_spec =
     tie.close
     (tie.spec
     invariant-loop

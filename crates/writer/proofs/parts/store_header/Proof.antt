@@ -17,34 +17,34 @@ use Rattle.writer.proofs.parts.store_header.Tie as tie
 fits : (s : tie.Start) → SFits w32 s.args.scale.bits
 fits s = search rules
 
-add-first : tie.Need-overflow-add-first
+add-first : tie.Need-overflow_add-first
 add-first c = search rules
 
-add-end : tie.Need-overflow-add-end
+add-end : tie.Need-overflow_add-end
 add-end c = search rules
 
-cast-t10 : tie.Need-overflow-cast-t10
+cast-t10 : tie.Need-overflow_cast-words
 cast-t10 c = search rules
 
-cast-t11 : tie.Need-overflow-cast-t11
+cast-t11 : tie.Need-overflow_cast-words-2
 cast-t11 c = search rules
 
-cast-t12 : tie.Need-overflow-cast-t12
+cast-t12 : tie.Need-overflow_cast-words-3
 cast-t12 c = search rules
 
-cast-t13 : tie.Need-overflow-cast-t13
+cast-t13 : tie.Need-overflow_cast-words-4
 cast-t13 c = search rules
 
-cast-t14 : tie.Need-overflow-cast-t14
+cast-t14 : tie.Need-overflow_cast-words-5
 cast-t14 c = search rules
 
-slice-aggregate-store-words : tie.Need-slice-aggregate-store-words
+slice-aggregate-store-words : tie.Need-slice_bounds-store_words-end
 slice-aggregate-store-words c = search rules
 
-store-words-requires : tie.Need-store-words-requires
+store-words-requires : tie.Need-store_words-requires
 store-words-requires c κs = search rules
 
-same_length : tie.Need-same-length
+same_length : tie.Need-shape_of-script
 same_length c = search rules
 
 returns : tie.Need-returns
@@ -52,10 +52,10 @@ unfolding signed low_bits
 returns c =
     let s = c.before.before.before.before.before.before.before in
     let a = s.args in
-    let e : c.before.before.store_words_lem.new.0 ≡ laid a.script.now 0
+    let e : c.store_words_lem.new.0 ≡ laid a.script.now 0
     (map bits_of (pos 1 ∷ to_z w32 (of_z w32 a.scale.bits) ∷ pos 8 ∷ signed a.params ∷ signed (8 + a.params) ∷
     signed a.commands ∷ signed (8 + a.params + a.commands) ∷ signed a.bytes ∷ [])) =
-    c.before.before.store_words_lem.ensures in
+    c.store_words_lem.ensures in
     rw (
       to_z-of_z (fits s),
       signed-bits a.params (omega arith),
@@ -65,8 +65,8 @@ returns c =
       signed-bits a.bytes (omega arith),
     ) at e
 
-pub store-header-spec : {M : Type 1} → statement M
-store-header-spec =
+pub store_header_spec : {M : Type 1} → statement M
+store_header_spec =
     tie.close
     (tie.spec
     add-first

@@ -31,58 +31,58 @@ zeros-behind part masks e =
     ap (λ (k : ℕ). (masks ++ zs) ++ drop k part) n ∙ ap (λ (l : List ℕ). (masks ++ zs) ++ l) (drop-length part) ∙
     append-nil (masks ++ zs) ∙ ap (λ (k : ℕ). masks ++ zeros (k - length masks)) e
 
-abbrev invariant-loop : tie.invariant-loop
+abbrev invariant-loop : tie.invariant-loop-i
 invariant-loop part₀ masks i₀ i-end part i =
     (placed part i (zeros (i-end - i)) ≡ padded_bytes masks) ×
     ((length part ≡ length part₀) × ((i ≤ i-end) × (i-end ≡ length part₀)))
 
-abbrev decreases-loop : tie.decreases-loop
+abbrev decreases-loop : tie.decreases-loop-i
 decreases-loop part₀ masks i₀ i-end part i = i-end - i
 
-copy-bytes-requires : tie.Need-copy-bytes-requires invariant-loop decreases-loop
-copy-bytes-requires c κs = omega (arith, c.before.before.before.requires)
+copy-bytes-requires : tie.Need-copy_bytes-requires invariant-loop decreases-loop
+copy-bytes-requires c κs = omega (arith, c.requires)
 
-loop-holds : tie.Need-loop-init invariant-loop decreases-loop
+loop-holds : tie.Need-loop-i-init invariant-loop decreases-loop
 loop-holds c =
-    let k = c.before.before in
-    let b = k.before.before.before.before in
-    let n : length k.copy-bytes.new.1.0 ≡ length b.args.part.now = k.copy-bytes.auto.1.0 in (
-      rw (n, k.copy-bytes.ensures) (zeros-behind b.args.part.now b.args.masks.now b.requires),
+    let k = c in
+    let b = k in
+    let n : length k.copy_bytes.new.1.0 ≡ length b.args.part.now = k.copy_bytes.auto.1.0 in (
+      rw (n, k.copy_bytes.ensures) (zeros-behind b.args.part.now b.args.masks.now b.requires),
       (refl, (omega arith, refl)),
     )
 
-slice-write-part : tie.Need-slice-write-part invariant-loop decreases-loop
+slice-write-part : tie.Need-bounds-part-i invariant-loop decreases-loop
 slice-write-part c = search rules
 
-add-i : tie.Need-overflow-add-i invariant-loop decreases-loop
+add-i : tie.Need-overflow_step-i invariant-loop decreases-loop
 add-i c = search rules
 
-loop-less : tie.Need-loop-smaller invariant-loop decreases-loop
+loop-less : tie.Need-loop-i-smaller invariant-loop decreases-loop
 loop-less c = search rules
 
-loop-again : tie.Need-loop-preserved invariant-loop decreases-loop
+loop-again : tie.Need-loop-i-preserved invariant-loop decreases-loop
 loop-again c =
-    let l = c.before in
-    let n = length l.before.before.before.copy-bytes.new.1.0 in
-    let i = l.loop.i in
+    let l = c in
+    let n = length l.copy_bytes.new.1.0 in
+    let i = l.loop-i.i in
     let e : n - i ≡ suc (n - (i + 1)) = omega arith in (
-      placed-store l.loop.part i 0 (zeros (n - (i + 1))) (omega arith) ∙
-          ap (λ (k : ℕ). placed l.loop.part i (zeros k)) (sym e) ∙
-          l.loop.invariant.0,
-      (simp length-set l.loop.invariant.1.0, (omega arith, omega arith)),
+      placed-store l.loop-i.part i 0 (zeros (n - (i + 1))) (omega arith) ∙
+          ap (λ (k : ℕ). placed l.loop-i.part i (zeros k)) (sym e) ∙
+          l.loop-i.invariant.0,
+      (simp length-set l.loop-i.invariant.1.0, (omega arith, omega arith)),
     )
 
-same_length : tie.Need-same-length invariant-loop decreases-loop
+same_length : tie.Need-shape_of-part invariant-loop decreases-loop
 same_length c = search rules
 
 returns : tie.Need-returns invariant-loop decreases-loop
 returns c =
-    let l = c.before in
-    let e : length l.before.before.before.copy-bytes.new.1.0 - l.loop.i ≡ 0 = omega arith in
-    sym (placed-none l.loop.part l.loop.i) ∙ (rw e at l.loop.invariant.0)
+    let l = c in
+    let e : length l.copy_bytes.new.1.0 - l.loop-i.i ≡ 0 = omega arith in
+    sym (placed-none l.loop-i.part l.loop-i.i) ∙ (rw e at l.loop-i.invariant.0)
 
-pub store-masks-spec : {M : Type 1} → statement M
-store-masks-spec =
+pub store_masks_spec : {M : Type 1} → statement M
+store_masks_spec =
     tie.close
     (tie.spec
     invariant-loop

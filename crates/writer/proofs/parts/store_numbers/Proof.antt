@@ -25,32 +25,32 @@ fits-fuzz s = search rules
 fits-group : (s : tie.Start) → SFits w32 s.args.params.language_group
 fits-group s = search rules
 
-cast-t12 : tie.Need-overflow-cast-t12
+cast-t12 : tie.Need-overflow_cast-words
 cast-t12 c = search rules
 
-cast-t13 : tie.Need-overflow-cast-t13
+cast-t13 : tie.Need-overflow_cast-words-2
 cast-t13 c = search rules
 
-cast-t14 : tie.Need-overflow-cast-t14
+cast-t14 : tie.Need-overflow_cast-words-3
 cast-t14 c = search rules
 
-cast-t15 : tie.Need-overflow-cast-t15
+cast-t15 : tie.Need-overflow_cast-words-4
 cast-t15 c = search rules
 
-slice-aggregate-store-words : tie.Need-slice-aggregate-store-words
+slice-aggregate-store-words : tie.Need-slice_bounds-store_words-end
 slice-aggregate-store-words c = search rules
 
-store-words-requires : tie.Need-store-words-requires
+store-words-requires : tie.Need-store_words-requires
 store-words-requires c κs = search rules
 
-same_length : tie.Need-same-length
+same_length : tie.Need-shape_of-script
 same_length c = search rules
 
 returns : tie.Need-returns
 unfolding signed number_words
 returns c =
-    let f = c.before.before in
-    let s = f.before.before.before.before.before.before.before.before.before.before.before.before.before.before.before.before.before.before.before in
+    let f = c in
+    let s = f.before.before.before.before.before.before.before.before.before.before.before.before.before.before.before.before.before.before.before.before.before in
     let a = s.args in
     let p = a.params in
     let e : f.store_words_lem.new.0 ≡ laid a.script.now 8
@@ -63,14 +63,14 @@ returns c =
       to_z-of_z (fits-shift s),
       to_z-of_z (fits-fuzz s),
       to_z-of_z (fits-group s),
-      signed-bits p.blues.count (omega (arith, s.pre.1.blues)),
-      signed-bits p.other_blues.count (omega (arith, s.pre.1.others)),
-      signed-bits p.family_blues.count (omega (arith, s.pre.1.family)),
-      signed-bits p.family_other_blues.count (omega (arith, s.pre.1.family_others)),
+      signed-bits p.blues.count (omega (arith, s.requires.1.blues)),
+      signed-bits p.other_blues.count (omega (arith, s.requires.1.others)),
+      signed-bits p.family_blues.count (omega (arith, s.requires.1.family)),
+      signed-bits p.family_other_blues.count (omega (arith, s.requires.1.family_others)),
     ) at e
 
-pub store-numbers-spec : {M : Type 1} → statement M
-store-numbers-spec =
+pub store_numbers_spec : {M : Type 1} → statement M
+store_numbers_spec =
     tie.close
     (tie.spec
     cast-t12

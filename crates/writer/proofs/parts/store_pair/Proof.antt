@@ -19,22 +19,22 @@ low s = search rules
 high : (s : tie.Start) → SFits w32 s.args.pair.top.bits
 high s = search rules
 
-bits-of-requires : tie.Need-bits-of-requires
+bits-of-requires : tie.Need-bits_of-requires
 bits-of-requires c κs = search rules
 
 store-requires : tie.Need-store-requires
 store-requires c κs = search rules
 
-add-store : tie.Need-overflow-add-store
+add-store : tie.Need-overflow_add-i
 add-store c = search rules
 
-bits-of-requires-2 : tie.Need-bits-of-requires-2
+bits-of-requires-2 : tie.Need-bits_of-requires-2
 bits-of-requires-2 c κs = search rules
 
 store-requires-2 : tie.Need-store-requires-2
 store-requires-2 c κs = search rules
 
-same_length : tie.Need-same-length
+same_length : tie.Need-shape_of-script
 same_length c = search rules
 
 returns : tie.Need-returns
@@ -44,19 +44,19 @@ returns c =
     let f = d.before.before.before.before.before in
     let s = f.before.before.before.before.before in
     let a = s.args in
-    c.before.before.store2.ensures ∙
-    ap (λ (l : List ℕ). laid l (a.i + 1) (d.bits-of2.result ∷ [])) f.store.ensures ∙
-    laid-behind a.script.now a.i (f.before.bits_of.result ∷ []) (omega arith) (d.bits-of2.result ∷ [])
+    c.store-2.ensures ∙
+    ap (λ (l : List ℕ). laid l (a.i + 1) (d.bits_of-2.result ∷ [])) f.store.ensures ∙
+    laid-behind a.script.now a.i (f.bits_of.result ∷ []) (omega arith) (d.bits_of-2.result ∷ [])
     (a.i + 1) (omega arith) ∙
     rw (
-      f.before.bits_of.ensures,
-      d.bits-of2.ensures,
+      f.bits_of.ensures,
+      d.bits_of-2.ensures,
       to_z-of_z (low s),
       to_z-of_z (high s),
     )
 
-pub store-pair-spec : {M : Type 1} → statement M
-store-pair-spec =
+pub store_pair_spec : {M : Type 1} → statement M
+store_pair_spec =
     tie.close
     (tie.spec
     bits-of-requires

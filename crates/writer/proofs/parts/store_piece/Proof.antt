@@ -17,7 +17,7 @@ use Rattle.writer.proofs.parts.store_piece.Statement.{statement}
 use Rattle.writer.proofs.parts.store_piece.Tie as tie
 
 -- the given words, and the piece among them
-module _ (c : tie.After-is-mask) where
+module _ (c : tie.After-is_mask) where
   abbrev begin : tie.Start
   begin = c.before.before.before
 
@@ -31,41 +31,41 @@ module _ (c : tie.After-is-mask) where
   many = length-map begin.args.commands.now bits_of
 
   -- whether it is a mask
-  kind : is_mask (get_or words at 0) ≡ c.is-mask.result
-  kind = ap is_mask (sym c.before.given-natural.ensures.0) ∙ sym c.is-mask.ensures
+  kind : is_mask (get_or words at 0) ≡ c.is_mask.result
+  kind = ap is_mask (sym c.given_natural-kind.ensures.0) ∙ sym c.is_mask.ensures
 
 -- a mask has a length, and three words in the script
-module _ (c : tie.Then1) where
-  abbrev test : tie.After-is-mask
+module _ (c : tie.Then-is_mask) where
+  abbrev test : tie.After-is_mask
   test = c.before
 
   mask : is_mask (get_or (words test) (at test) 0) ≡ true
-  mask = kind test ∙ c.if1.true
+  mask = kind test ∙ c.if-is_mask.true
 
   there : at test + 1 < length (words test)
-  there = omega (arith, many test, (begin test).pre.0, mask-operands (get_or (words test) (at test) 0) mask)
+  there = omega (arith, many test, (begin test).requires.0, mask-operands (get_or (words test) (at test) 0) mask)
 
   stored : piece_words (started (begin test).args.start (piece_at (words test) (at test))) ≡
       get_or (words test) (at test) 0 ∷ (begin test).args.start ∷ get_or (words test) (at test + 1) 0 ∷ []
   stored = mask-stored (words test) (at test) (begin test).args.start mask there
 
   room : 4 * ((begin test).args.to + 3) ≤ length (begin test).args.script.now
-  room = omega (arith, (begin test).pre.1, ap length stored)
+  room = omega (arith, (begin test).requires.1, ap length stored)
 
 -- another piece has the operands of its kind
 module _ (c : tie.After-operands) where
-  abbrev other : tie.After-is-mask
+  abbrev other : tie.After-is_mask
   other = c.before.before
 
   plain : is_mask (get_or (words other) (at other) 0) ≡ false
-  plain = kind other ∙ c.before.if1.false
+  plain = kind other ∙ c.if-is_mask.false
 
   few : c.operands.result ≡ operands_of (get_or (words other) (at other) 0)
-  few = c.operands.ensures.0 ∙ ap operands_of other.before.given-natural.ensures.0
+  few = c.operands.ensures.0 ∙ ap operands_of other.given_natural-kind.ensures.0
 
   inside : at other + 1 + c.operands.result ≤ length (begin other).args.commands.now
   inside =
-      omega (arith, (begin other).pre.0, other-operands (get_or (words other) (at other) 0) plain, few)
+      omega (arith, (begin other).requires.0, other-operands (get_or (words other) (at other) 0) plain, few)
 
   taken : at other + 1 + c.operands.result - at other ≡ 1 + operands_of (get_or (words other) (at other) 0)
   taken = omega (arith, few)
@@ -78,105 +78,105 @@ module _ (c : tie.After-operands) where
       ap (λ (n : ℕ). take n (drop (at other) (words other))) (sym taken) ∙
       sym (bits-part (begin other).args.commands.now (at other) (at other + 1 + c.operands.result - at other))
 
-given-natural-requires : tie.Need-given-natural-requires
+given-natural-requires : tie.Need-given_natural-kind-requires
 given-natural-requires c κs = search rules
 
-is-mask-requires : tie.Need-is-mask-requires
+is-mask-requires : tie.Need-is_mask-requires
 is-mask-requires c κs = search rules
 
-given-word-requires : tie.Need-given-word-requires
+given-word-requires : tie.Need-given_word-requires
 given-word-requires c κs = search rules
 
 store-requires : tie.Need-store-requires
 store-requires c κs = search rules
 
-add-store : tie.Need-overflow-add-store
+add-store : tie.Need-overflow_add-to
 add-store c = search rules
 
-store-requires-2 : tie.Need-store-requires-2
+store-requires-2 : tie.Need-store-requires-then-is_mask
 store-requires-2 c κs =
-    let s = c.before.before.before in
-    let t = s.before.before.before in
+    let s = c in
+    let t = s.before.before.before.before.before.before in
     omega (arith, room t, s.store.auto)
 
-add-store-2 : tie.Need-overflow-add-store-2
+add-store-2 : tie.Need-overflow_add-to-then-is_mask
 add-store-2 c = search rules
 
-add-given-word : tie.Need-overflow-add-given-word
+add-given-word : tie.Need-overflow_add-at
 add-given-word c = search rules
 
-given-word-requires-2 : tie.Need-given-word-requires-2
+given-word-requires-2 : tie.Need-given_word-requires-then-is_mask
 given-word-requires-2 c κs =
-    let s = c.before.before.before.before.before.before.before in
-    let t = s.before.before.before in
+    let s = c in
+    let t = s.before.before.before.before.before.before.before.before.before.before in
     omega (arith, there t, many (test t))
 
-store-requires-3 : tie.Need-store-requires-3
+store-requires-3 : tie.Need-store-requires-then-is_mask-2
 store-requires-3 c κs =
-    let s2 = c.before.before.before.before in
-    let s1 = s2.before.before.before.before in
-    let t = s1.before.before.before in
-    omega (arith, room t, s1.store.auto, s2.store2.auto)
+    let s2 = c in
+    let s1 = s2 in
+    let t = s1.before.before.before.before.before.before.before.before.before.before.before in
+    omega (arith, room t, s1.store.auto, s2.store-then-is_mask.auto)
 
-same_length : tie.Need-same-length
+same_length : tie.Need-shape_of-script-then-is_mask
 same_length c = search rules
 
-returns : tie.Need-returns
+returns : tie.Need-returns-then-is_mask
 returns c =
-    let s3 = c.before.before in
-    let s2 = s3.before.before.before.before.before in
-    let s1 = s2.before.before.before.before in
-    let t = s1.before.before.before in
+    let s3 = c in
+    let s2 = s3 in
+    let s1 = s2 in
+    let t = s1.before.before.before.before.before.before.before.before.before.before.before.before.before.before in
     let a = (begin (test t)).args in
     let b = a.script.now in
-    let x = s1.before.given_word.result in
-    let y = s3.before.given-word2.result in
-    s3.store3.ensures ∙ ap (λ (l : List ℕ). laid l (a.to + 2) (y ∷ [])) s2.store2.ensures ∙
+    let x = s1.given_word.result in
+    let y = s3.given_word-then-is_mask.result in
+    s3.store-then-is_mask-2.ensures ∙ ap (λ (l : List ℕ). laid l (a.to + 2) (y ∷ [])) s2.store-then-is_mask.ensures ∙
     ap (λ (l : List ℕ). laid (laid l (a.to + 1) (a.start ∷ [])) (a.to + 2) (y ∷ [])) s1.store.ensures ∙
     ap (λ (l : List ℕ). laid l (a.to + 2) (y ∷ []))
     (laid-behind b a.to (x ∷ []) (omega (arith, room t)) (a.start ∷ []) (a.to + 1) (omega arith)) ∙
     laid-behind b a.to (x ∷ a.start ∷ []) (omega (arith, room t)) (y ∷ []) (a.to + 2) (omega arith) ∙
-    ap (laid b a.to) (rw (s1.before.given_word.ensures, s3.before.given-word2.ensures) (sym (stored t)))
+    ap (laid b a.to) (rw (s1.given_word.ensures, s3.given_word-then-is_mask.ensures) (sym (stored t)))
 
-add-next : tie.Need-overflow-add-next
+add-next : tie.Need-overflow_add-next
 add-next c = search rules
 
 operands-requires : tie.Need-operands-requires
 operands-requires c κs = search rules
 
-add-next-2 : tie.Need-overflow-add-next-2
+add-next-2 : tie.Need-overflow_add-next-2
 add-next-2 c = search rules
 
-mul-store-words : tie.Need-overflow-mul-store-words
+mul-store-words : tie.Need-offset_bounds-commands-at
 mul-store-words c = search rules
 
-sub-store-words : tie.Need-overflow-sub-store-words
+sub-store-words : tie.Need-slice_bounds-store_words-count
 sub-store-words c = search rules
 
-part-store-words-start : tie.Need-slice-bounds-store-words-start
+part-store-words-start : tie.Need-slice_bounds-store_words-start
 part-store-words-start c = search rules
 
-part-store-words-end : tie.Need-slice-bounds-store-words-end
+part-store-words-end : tie.Need-slice_bounds-store_words-end
 part-store-words-end c = omega (arith, inside c.before)
 
-store-words-requires : tie.Need-store-words-requires
+store-words-requires : tie.Need-store_words-requires
 store-words-requires c κs =
     let o = c.before.before in
     let n = ap length (whole o) ∙ length-map (take (at (other o) + 1 + o.operands.result - at (other o))
     (drop (at (other o)) (begin (other o)).args.commands.now)) bits_of in
-    omega (arith, (begin (other o)).pre.1, n)
+    omega (arith, (begin (other o)).requires.1, n)
 
-same-length-2 : tie.Need-same-length-2
+same-length-2 : tie.Need-shape_of-script
 same-length-2 c = search rules
 
-returns-2 : tie.Need-returns-2
+returns-2 : tie.Need-returns
 returns-2 c =
     let o = c.before.before.before.before.before in
     let a = (begin (other o)).args in
-    c.before.before.store_words_lem.ensures ∙ ap (laid a.script.now a.to) (sym (whole o))
+    c.store_words_lem.ensures ∙ ap (laid a.script.now a.to) (sym (whole o))
 
-pub store-piece-spec : {M : Type 1} → statement M
-store-piece-spec =
+pub store_piece_spec : {M : Type 1} → statement M
+store_piece_spec =
     tie.close
     (tie.spec
     given-natural-requires

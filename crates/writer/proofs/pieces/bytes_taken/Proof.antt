@@ -15,56 +15,56 @@ use Rattle.writer.proofs.pieces.bytes_taken.Statement.{statement}
 use Rattle.writer.proofs.pieces.bytes_taken.Tie as tie
 
 -- the piece is a mask
-module _ (c : tie.Else1) where
+module _ (c : tie.Else-not-is_mask) where
   abbrev begin : tie.Start
   begin = c.before.before.before
 
   mask : is_mask (get_or (map bits_of begin.args.commands.now) begin.args.at 0) ≡ true
   mask =
-      ap is_mask (sym c.before.before.given-natural.ensures.0) ∙ sym c.before.is-mask.ensures ∙
-      not-false _ c.if1.false
+      ap is_mask (sym c.given_natural.ensures.0) ∙ sym c.is_mask.ensures ∙
+      c.if-not-is_mask.false
 
-given-natural-requires : tie.Need-given-natural-requires
+given-natural-requires : tie.Need-given_natural-requires
 given-natural-requires c κs = search rules
 
-is-mask-requires : tie.Need-is-mask-requires
+is-mask-requires : tie.Need-is_mask-requires
 is-mask-requires c κs = search rules
 
-returns : tie.Need-returns
+returns : tie.Need-returns-then-not-is_mask
 returns c =
-    let k = c.before.is-mask in
-    let n = c.before.before.given-natural in
-    let a = c.before.before.before.args in (
+    let k = c.is_mask in
+    let n = c.given_natural in
+    let a = c.args in (
       sym (others-take (map bits_of a.commands.now) a.at (ap is_mask (sym n.ensures.0) ∙ sym k.ensures ∙
-          not-true _ c.if1.true)),
+          c.if-not-is_mask.true)),
       omega arith,
     )
 
-add-if2 : tie.Need-overflow-add-if2
+add-if2 : tie.Need-overflow_add-at
 add-if2 c = search rules
 
-returns-2 : tie.Need-returns-2
+returns-2 : tie.Need-returns-then-commands-at
 returns-2 c =
     let a = (begin c.before).args in
     let ws = map bits_of a.commands.now in
     let past = get_or-eq_default ws 0 {n = a.at + 1} (omega (arith, length-map a.commands.now bits_of)) in
     (sym (mask-takes ws a.at (mask c.before) ∙ past), omega arith)
 
-add-given-natural : tie.Need-overflow-add-given-natural
+add-given-natural : tie.Need-overflow_add-at-2
 add-given-natural c = search rules
 
-given-natural-requires-2 : tie.Need-given-natural-requires-2
+given-natural-requires-2 : tie.Need-given_natural-requires-2
 given-natural-requires-2 c κs = search rules
 
-returns-3 : tie.Need-returns-3
+returns-3 : tie.Need-returns
 returns-3 c =
     let l = c.before.before in
     let a = (begin l).args in
     let takes = mask-takes (map bits_of a.commands.now) a.at (mask l) in
-    (c.given-natural2.ensures.0 ∙ sym takes, c.given-natural2.ensures.1)
+    (c.given_natural-2.ensures.0 ∙ sym takes, c.given_natural-2.ensures.1)
 
-pub bytes-taken-spec : {M : Type 1} → statement M
-bytes-taken-spec =
+pub bytes_taken_spec : {M : Type 1} → statement M
+bytes_taken_spec =
     tie.close
     (tie.spec
     given-natural-requires

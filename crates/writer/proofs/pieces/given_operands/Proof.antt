@@ -6,21 +6,21 @@ use Rattle.writer.specs.Pieces.{given_operands}
 use Rattle.writer.proofs.pieces.given_operands.Statement.{statement}
 use Rattle.writer.proofs.pieces.given_operands.Tie as tie
 
-is-mask-requires : tie.Need-is-mask-requires
+is-mask-requires : tie.Need-is_mask-requires
 is-mask-requires c κs = search rules
 
-returns : tie.Need-returns
+returns : tie.Need-returns-then-is_mask
 unfolding given_operands
-returns c = (rw (sym c.before.is-mask.ensures ∙ c.if1.true), omega arith)
+returns c = (rw (sym c.is_mask.ensures ∙ c.if-is_mask.true), omega arith)
 
 operands-requires : tie.Need-operands-requires
 operands-requires c κs = search rules
 
-returns-2 : tie.Need-returns-2
+returns-2 : tie.Need-returns
 unfolding given_operands
 returns-2 c =
-    let e = sym c.before.before.is-mask.ensures ∙ c.before.if1.false in
+    let e = sym c.is_mask.ensures ∙ c.if-is_mask.false in
     (rw e c.operands.ensures.0, c.operands.ensures.1)
 
-pub given-operands-spec : {M : Type 1} → statement M
-given-operands-spec = tie.close (tie.spec is-mask-requires returns operands-requires returns-2)
+pub given_operands_spec : {M : Type 1} → statement M
+given_operands_spec = tie.close (tie.spec is-mask-requires returns operands-requires returns-2)

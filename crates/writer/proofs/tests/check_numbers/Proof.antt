@@ -17,90 +17,90 @@ use Rattle.writer.proofs.tests.check_numbers.Statement.{statement}
 use Rattle.writer.proofs.tests.check_numbers.Tie as tie
 
 -- the scale is a number of 32 bits
-fits : (c : tie.After-struct-told) → SFits w32 c.before.before.args.scale.bits
+fits : (c : tie.After-struct_told-1) → SFits w32 c.args.scale.bits
 fits c = search rules
 
-scaled : (c : tie.Else1) → less_f c.before.before.before.args.scale (from_bits (pos 1)) ≡ false
-scaled c = rw (to_z-of_z (fits c.before)) at c.if1.false
+scaled : (c : tie.Else-scale-lt1) → less_f c.args.scale (from_bits (pos 1)) ≡ false
+scaled c = rw (to_z-of_z (fits c.before)) at c.if-scale-lt1.false
 
-abbrev given : (c : tie.Else2) → HintParams
-given c = c.before.before.before.before.before.args.params
+abbrev given : (c : tie.Else-too_many) → HintParams
+given c = c.args.params
 
-few : (c : tie.Else2) → ltb max_blues (given c).blues.count ≡ false
-few c = sym c.before.too_many.ensures ∙ c.if2.false
+few : (c : tie.Else-too_many) → ltb max_blues (given c).blues.count ≡ false
+few c = sym c.too_many.ensures ∙ c.if-too_many.false
 
-few-others : (c : tie.Else3) → ltb max_blues (given c.before.before).other_blues.count ≡ false
-few-others c = sym c.before.too-many2.ensures ∙ c.if3.false
+few-others : (c : tie.Else-too_many-2) → ltb max_blues (given c.before.before.before).other_blues.count ≡ false
+few-others c = sym c.too_many-2.ensures ∙ c.if-too_many-2.false
 
-few-family : (c : tie.Else4) → ltb max_blues (given c.before.before.before.before).family_blues.count ≡ false
-few-family c = sym c.before.too-many3.ensures ∙ c.if4.false
+few-family : (c : tie.Else-too_many-3) → ltb max_blues (given c.before.before.before.before.before.before).family_blues.count ≡ false
+few-family c = sym c.too_many-3.ensures ∙ c.if-too_many-3.false
 
-returns : tie.Need-returns
+returns : tie.Need-returns-then-scale-lt1
 unfolding given_rows first_or
 returns c =
-    let e : less_f c.before.before.before.args.scale (from_bits (pos 1)) ≡
-    true = rw (to_z-of_z (fits c.before)) at c.if1.true in
+    let e : less_f c.args.scale (from_bits (pos 1)) ≡
+    true = rw (to_z-of_z (fits c.before)) at c.if-scale-lt1.true in
     rw e
 
-too-many-requires : tie.Need-too-many-requires
+too-many-requires : tie.Need-too_many-requires
 too-many-requires c κs = search rules
 
-returns-2 : tie.Need-returns-2
+returns-2 : tie.Need-returns-then-too_many
 unfolding given_rows first_or
-returns-2 c = rw (scaled c.before.before, sym c.before.too_many.ensures ∙ c.if2.true)
+returns-2 c = rw (scaled c.before.before.before, sym c.too_many.ensures ∙ c.if-too_many.true)
 
-too-many-requires-2 : tie.Need-too-many-requires-2
+too-many-requires-2 : tie.Need-too_many-requires-2
 too-many-requires-2 c κs = search rules
 
-returns-3 : tie.Need-returns-3
+returns-3 : tie.Need-returns-then-too_many-2
 unfolding given_rows first_or
 returns-3 c =
-    let e = c.before.before in
-    rw (scaled e.before.before, few e, sym c.before.too-many2.ensures ∙ c.if3.true)
+    let e = c.before.before.before in
+    rw (scaled e.before.before.before, few e, sym c.too_many-2.ensures ∙ c.if-too_many-2.true)
 
-too-many-requires-3 : tie.Need-too-many-requires-3
+too-many-requires-3 : tie.Need-too_many-requires-3
 too-many-requires-3 c κs = search rules
 
-returns-4 : tie.Need-returns-4
+returns-4 : tie.Need-returns-then-too_many-3
 unfolding given_rows first_or
 returns-4 c =
-    let f = c.before.before in
-    let e = f.before.before in
-    rw (scaled e.before.before, few e, few-others f, sym c.before.too-many3.ensures ∙ c.if4.true)
+    let f = c.before.before.before in
+    let e = f.before.before.before in
+    rw (scaled e.before.before.before, few e, few-others f, sym c.too_many-3.ensures ∙ c.if-too_many-3.true)
 
-too-many-requires-4 : tie.Need-too-many-requires-4
+too-many-requires-4 : tie.Need-too_many-requires-4
 too-many-requires-4 c κs = search rules
 
-returns-5 : tie.Need-returns-5
+returns-5 : tie.Need-returns-then-too_many-4
 unfolding given_rows first_or
 returns-5 c =
-    let g = c.before.before in
-    let f = g.before.before in
-    let e = f.before.before in
+    let g = c.before.before.before in
+    let f = g.before.before.before in
+    let e = f.before.before.before in
     rw (
-      scaled e.before.before,
+      scaled e.before.before.before,
       few e,
       few-others f,
       few-family g,
-      sym c.before.too-many4.ensures ∙ c.if5.true,
+      sym c.too_many-4.ensures ∙ c.if-too_many-4.true,
     )
 
-returns-6 : tie.Need-returns-6
+returns-6 : tie.Need-returns
 unfolding given_rows first_or
 returns-6 c =
-    let g = c.before.before in
-    let f = g.before.before in
-    let e = f.before.before in
+    let g = c.before.before.before in
+    let f = g.before.before.before in
+    let e = f.before.before.before in
     rw (
-      scaled e.before.before,
+      scaled e.before.before.before,
       few e,
       few-others f,
       few-family g,
-      sym c.before.too-many4.ensures ∙ c.if5.false,
+      sym c.too_many-4.ensures ∙ c.if-too_many-4.false,
     )
 
-pub check-numbers-spec : {M : Type 1} → statement M
-check-numbers-spec =
+pub check_numbers_spec : {M : Type 1} → statement M
+check_numbers_spec =
     tie.close
     (tie.spec
     returns

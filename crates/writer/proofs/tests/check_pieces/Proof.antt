@@ -23,132 +23,132 @@ use Rattle.writer.proofs.PieceFaults.{found-end, piece-there}
 use Rattle.writer.proofs.tests.check_pieces.Statement.{statement}
 use Rattle.writer.proofs.tests.check_pieces.Tie as tie
 
-abbrev invariant-loop : tie.invariant-loop
+abbrev invariant-loop : tie.invariant-loop-at
 invariant-loop commands bytes left₀ at₀ left at =
     (first_or (Written 0) (piece_rows 0 bytes (pieces_in commands)) ≡ found (map bits_of commands) at left) ×
     (at ≤ length commands)
 
-abbrev decreases-loop : tie.decreases-loop
+abbrev decreases-loop : tie.decreases-loop-at
 decreases-loop commands bytes left₀ at₀ left at = length commands - at
 
 -- the words, and the place among them
-module _ (c : tie.In-loop invariant-loop decreases-loop) where
+module _ (c : tie.In-loop-at invariant-loop decreases-loop) where
   abbrev words : List ℕ
-  words = map bits_of c.before.before.args.commands.now
+  words = map bits_of c.args.commands.now
 
   abbrev at : ℕ
-  at = c.before.loop.at
+  at = c.loop-at.at
 
-  many : length words ≡ length c.before.before.args.commands.now
-  many = length-map c.before.before.args.commands.now bits_of
+  many : length words ≡ length c.args.commands.now
+  many = length-map c.args.commands.now bits_of
 
   there : at < length words
   there = omega (arith, many)
 
 -- where a piece is whole and its mask not too long
-module _ (c : tie.Else2 invariant-loop decreases-loop) where
-  abbrev turn : tie.In-loop invariant-loop decreases-loop
+module _ (c : tie.Else-too_long invariant-loop decreases-loop) where
+  abbrev turn : tie.In-loop-at invariant-loop decreases-loop
   turn = c.before.before.before.before.before
 
   whole : bad_piece (piece_at (words turn) (at turn)) ≡ false
-  whole = sym c.before.before.before.before.bad-piece.ensures ∙ c.before.before.before.if1.false
+  whole = sym c.bad_piece.ensures ∙ c.if-bad_piece.false
 
-  short : too_long (bytes_taken (piece_at (words turn) (at turn))) turn.before.loop.left ≡ false
+  short : too_long (bytes_taken (piece_at (words turn) (at turn))) turn.loop-at.left ≡ false
   short =
-      ap (λ (n : ℕ). too_long n turn.before.loop.left) (sym c.before.before.bytes-taken.ensures.0) ∙
-      sym c.before.too_long.ensures ∙ c.if2.false
+      ap (λ (n : ℕ). too_long n turn.loop-at.left) (sym c.bytes_taken-taken.ensures.0) ∙
+      sym c.too_long.ensures ∙ c.if-too_long.false
 
-  taken : c.before.before.bytes-taken.result ≤ turn.before.loop.left
+  taken : c.bytes_taken-taken.result ≤ turn.loop-at.left
   taken =
-      let l = c.before.before.bytes-taken.result in
-      let f = turn.before.loop.left in
-      ltb-false f l (both_false (negative l) (ltb f l) (sym c.before.too_long.ensures ∙ c.if2.false)).1
+      let l = c.bytes_taken-taken.result in
+      let f = turn.loop-at.left in
+      ltb-false f l (both_false (negative l) (ltb f l) (sym c.too_long.ensures ∙ c.if-too_long.false)).1
 
 -- and its next word
-moved : (c : tie.After-given-operands invariant-loop decreases-loop) →
-    let t = turn c.before.before in at t + 1 + c.given-operands.result ≡ next_piece (words t) (at t)
+moved : (c : tie.After-given_operands invariant-loop decreases-loop) →
+    let t = turn c.before.before in at t + 1 + c.given_operands.result ≡ next_piece (words t) (at t)
 moved c =
     let t = turn c.before.before in
     ap (λ (n : ℕ). at t + 1 + n)
-    (c.given-operands.ensures.0 ∙ ap given_operands c.before.given-natural.ensures.0)
+    (c.given_operands.ensures.0 ∙ ap given_operands c.given_natural.ensures.0)
 
 -- behind the last piece
-ended : (c : tie.After-loop invariant-loop decreases-loop) →
-    cond (ltb 0 c.before.loop.left) (BadMask c.before.loop.at) (Written 0) ≡ first_or (Written 0)
-    (piece_rows 0 c.before.before.args.bytes (pieces_in c.before.before.args.commands.now))
+ended : (c : tie.After-loop-at invariant-loop decreases-loop) →
+    cond (ltb 0 c.loop-at.left) (BadMask c.loop-at.at) (Written 0) ≡ first_or (Written 0)
+    (piece_rows 0 c.args.bytes (pieces_in c.args.commands.now))
 ended c =
-    let a = c.before.before.args in
-    sym (c.before.loop.invariant.0 ∙
-    found-end (map bits_of a.commands.now) c.before.loop.at c.before.loop.left
+    let a = c.args in
+    sym (c.loop-at.invariant.0 ∙
+    found-end (map bits_of a.commands.now) c.loop-at.at c.loop-at.left
     (omega (arith, length-map a.commands.now bits_of)))
 
-loop-holds : tie.Need-loop-init invariant-loop decreases-loop
+loop-holds : tie.Need-loop-at-init invariant-loop decreases-loop
 loop-holds c = (refl, omega arith)
 
-bad-piece-requires : tie.Need-bad-piece-requires invariant-loop decreases-loop
+bad-piece-requires : tie.Need-bad_piece-requires invariant-loop decreases-loop
 bad-piece-requires c κs = search rules
 
-returns : tie.Need-returns invariant-loop decreases-loop
+returns : tie.Need-returns-then-bad_piece invariant-loop decreases-loop
 returns c =
     let t = c.before.before in
-    found-bad (words t) (at t) (there t) t.before.loop.left
-    (sym c.before.bad-piece.ensures ∙ c.if1.true) ∙
-    sym t.before.loop.invariant.0
+    found-bad (words t) (at t) (there t) t.loop-at.left
+    (sym c.bad_piece.ensures ∙ c.if-bad_piece.true) ∙
+    sym t.loop-at.invariant.0
 
-bytes-taken-requires : tie.Need-bytes-taken-requires invariant-loop decreases-loop
+bytes-taken-requires : tie.Need-bytes_taken-taken-requires invariant-loop decreases-loop
 bytes-taken-requires c κs = search rules
 
-too-long-requires : tie.Need-too-long-requires invariant-loop decreases-loop
+too-long-requires : tie.Need-too_long-requires invariant-loop decreases-loop
 too-long-requires c κs = search rules
 
-returns-2 : tie.Need-returns-2 invariant-loop decreases-loop
+returns-2 : tie.Need-returns-then-too_long invariant-loop decreases-loop
 returns-2 c =
     let e = c.before.before.before in
     let t = e.before.before in
-    let l = t.before.loop.left in
-    found-long (words t) (at t) (there t) l (sym e.before.bad-piece.ensures ∙ e.if1.false)
-    (ap (λ (n : ℕ). too_long n l) (sym c.before.before.bytes-taken.ensures.0) ∙
-    sym c.before.too_long.ensures ∙ c.if2.true) ∙
-    sym t.before.loop.invariant.0
+    let l = t.loop-at.left in
+    found-long (words t) (at t) (there t) l (sym e.bad_piece.ensures ∙ e.if-bad_piece.false)
+    (ap (λ (n : ℕ). too_long n l) (sym c.bytes_taken-taken.ensures.0) ∙
+    sym c.too_long.ensures ∙ c.if-too_long.true) ∙
+    sym t.loop-at.invariant.0
 
-sub-left : tie.Need-overflow-sub-left invariant-loop decreases-loop
+sub-left : tie.Need-overflow_sub-left invariant-loop decreases-loop
 sub-left c = omega (arith, taken c)
 
-add_at : tie.Need-overflow-add-at invariant-loop decreases-loop
+add_at : tie.Need-overflow_add-at invariant-loop decreases-loop
 add_at c = search rules
 
-given-natural-requires : tie.Need-given-natural-requires invariant-loop decreases-loop
+given-natural-requires : tie.Need-given_natural-requires invariant-loop decreases-loop
 given-natural-requires c κs = search rules
 
-given-operands-requires : tie.Need-given-operands-requires invariant-loop decreases-loop
+given-operands-requires : tie.Need-given_operands-requires invariant-loop decreases-loop
 given-operands-requires c κs = search rules
 
-add-at-2 : tie.Need-overflow-add-at-2 invariant-loop decreases-loop
+add-at-2 : tie.Need-overflow_add-at-in-loop-at invariant-loop decreases-loop
 add-at-2 c = search rules
 
-loop-less : tie.Need-loop-smaller invariant-loop decreases-loop
+loop-less : tie.Need-loop-at-smaller invariant-loop decreases-loop
 loop-less c = omega arith
 
-loop-again : tie.Need-loop-preserved invariant-loop decreases-loop
+loop-again : tie.Need-loop-at-preserved invariant-loop decreases-loop
 loop-again c =
     let e = c.before.before in
     let t = turn e in
-    let n = found-next (words t) (at t) (there t) t.before.loop.left (whole e) (short e) in
+    let n = found-next (words t) (at t) (there t) t.loop-at.left (whole e) (short e) in
     rw (moved c) (
-      t.before.loop.inv.0 ∙ n ∙
-          ap (λ (k : ℕ). found (words t) (next_piece (words t) (at t)) (t.before.loop.left - k))
-          (sym e.before.before.bytes-taken.ensures.0),
+      t.loop-at.invariant.0 ∙ n ∙
+          ap (λ (k : ℕ). found (words t) (next_piece (words t) (at t)) (t.loop-at.left - k))
+          (sym e.bytes_taken-taken.ensures.0),
       omega (arith, many t, piece-there (words t) (at t) (there t) (whole e)),
     )
 
-returns-3 : tie.Need-returns-3 invariant-loop decreases-loop
-returns-3 c = rw (lt-ltb 0 c.before.before.loop.left c.if3.true) at (ended c.before)
+returns-3 : tie.Need-returns-then-left-gt0 invariant-loop decreases-loop
+returns-3 c = rw (lt-ltb 0 c.loop-at.left c.if-left-gt0.true) at (ended c.before)
 
-returns-4 : tie.Need-returns-4 invariant-loop decreases-loop
-returns-4 c = rw (le-ltb 0 c.before.before.loop.left c.if3.false) at (ended c.before)
+returns-4 : tie.Need-returns invariant-loop decreases-loop
+returns-4 c = rw (le-ltb 0 c.loop-at.left c.if-left-gt0.false) at (ended c.before)
 
-pub check-pieces-spec : {M : Type 1} → statement M
-check-pieces-spec =
+pub check_pieces_spec : {M : Type 1} → statement M
+check_pieces_spec =
     tie.close
     (tie.spec
     invariant-loop

@@ -20,38 +20,38 @@ long size room h = rw (lt-ltb 65536 size h) (any (ltb room size))
     any true = refl
     any false = refl
 
-returns : tie.Need-returns
+returns : tie.Need-returns-then-words-gt-MAX_SCRIPT_WORDS
 returns c =
-    let a = c.before.args in
+    let a = c.args in
     sym (long (4 * (8 + a.params + a.words + padded a.bytes)) a.room (omega arith))
 
-returns-2 : tie.Need-returns-2
+returns-2 : tie.Need-returns-then-bytes-gt-MAX_SCRIPT_BYTES
 returns-2 c =
-    let a = c.before.before.args in
+    let a = c.args in
     sym (long (4 * (8 + a.params + a.words + padded a.bytes)) a.room (omega arith))
 
-add-size : tie.Need-overflow-add-size
+add-size : tie.Need-overflow_add-size
 add-size c = search rules
 
-add-size-2 : tie.Need-overflow-add-size-2
+add-size-2 : tie.Need-overflow_add-size-2
 add-size-2 c = search rules
 
-add-size-3 : tie.Need-overflow-add-size-3
+add-size-3 : tie.Need-overflow_add-size-3
 add-size-3 c = search rules
 
-add-size-4 : tie.Need-overflow-add-size-4
+add-size-4 : tie.Need-overflow_add-size-4
 add-size-4 c = search rules
 
-mul-size : tie.Need-overflow-mul-size
+mul-size : tie.Need-overflow_mul-size
 mul-size c = search rules
 
-returns-3 : tie.Need-returns-3
-returns-3 c = rw (lt-ltb _ _ c.if3.true)
+returns-3 : tie.Need-returns-then-room-size
+returns-3 c = rw (lt-ltb _ _ c.if-room-size.true)
 
-returns-4 : tie.Need-returns-4
-returns-4 c = rw (le-ltb _ _ c.if3.false)
+returns-4 : tie.Need-returns
+returns-4 c = rw (le-ltb _ _ c.if-room-size.false)
 
-pub no-room-spec : {M : Type 1} → statement M
-no-room-spec =
+pub no_room_spec : {M : Type 1} → statement M
+no_room_spec =
     tie.close
     (tie.spec returns returns-2 add-size add-size-2 add-size-3 add-size-4 mul-size returns-3 returns-4)

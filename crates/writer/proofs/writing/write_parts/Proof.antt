@@ -11,7 +11,7 @@ use Rattle.writer.proofs.writing.write_parts.Statement.{statement}
 use Rattle.writer.proofs.writing.write_parts.Tie as tie
 
 -- what is to be written, how many words each part has, and their room
-module _ (c : tie.After-count-masks) where
+module _ (c : tie.After-count_masks) where
   abbrev begin : tie.Start
   begin = c.before.before.before.before
 
@@ -19,98 +19,98 @@ module _ (c : tie.After-count-masks) where
   asked =
       given begin.args.scale begin.args.params begin.args.commands.now begin.args.masks.now
 
-  params : c.before.count-params.result ≡ length (param_words begin.args.params)
-  params = c.before.count-params.ensures.0
+  params : c.count_params-count.result ≡ length (param_words begin.args.params)
+  params = c.count_params-count.ensures.0
 
-  words : length begin.args.commands.now + c.count-masks.result ≡
+  words : length begin.args.commands.now + c.count_masks.result ≡
       length (command_words begin.args.commands.now)
-  words = omega (arith, c.count-masks.ensures.0, commands-length begin.args.commands.now)
+  words = omega (arith, c.count_masks.ensures.0, commands-length begin.args.commands.now)
 
-  short : 4 * (8 + c.before.count-params.result + (length begin.args.commands.now + c.count-masks.result) +
+  short : 4 * (8 + c.count_params-count.result + (length begin.args.commands.now + c.count_masks.result) +
       padded (length begin.args.masks.now)) ≤ 65536
-  short = omega (arith, params, words, script-length asked, begin.pre.short)
+  short = omega (arith, params, words, script-length asked, begin.requires.short)
 
-  room : 4 * (8 + c.before.count-params.result + (length begin.args.commands.now + c.count-masks.result) +
+  room : 4 * (8 + c.count_params-count.result + (length begin.args.commands.now + c.count_masks.result) +
       padded (length begin.args.masks.now)) ≤ length begin.args.script.now
-  room = omega (arith, params, words, script-length asked, begin.pre.there)
+  room = omega (arith, params, words, script-length asked, begin.requires.there)
 
-count-params-requires : tie.Need-count-params-requires
+count-params-requires : tie.Need-count_params-count-requires
 count-params-requires c κs = search rules
 
-count-masks-requires : tie.Need-count-masks-requires
+count-masks-requires : tie.Need-count_masks-requires
 count-masks-requires c κs = search rules
 
-add_words : tie.Need-overflow-add-words
+add_words : tie.Need-overflow_add-words
 add_words c = search rules
 
-add-first : tie.Need-overflow-add-first
+add-first : tie.Need-overflow_add-first
 add-first c = search rules
 
-add_at : tie.Need-overflow-add-at
+add_at : tie.Need-overflow_add-at
 add_at c = search rules
 
-mul_at : tie.Need-overflow-mul-at
+mul_at : tie.Need-overflow_mul-at
 mul_at c = omega (arith, short c)
 
-add-size : tie.Need-overflow-add-size
+add-size : tie.Need-overflow_add-size
 add-size c = search rules
 
-mul-size : tie.Need-overflow-mul-size
+mul-size : tie.Need-overflow_mul-size
 mul-size c = search rules
 
-add-size-2 : tie.Need-overflow-add-size-2
+add-size-2 : tie.Need-overflow_add-size-2
 add-size-2 c = omega (arith, short c)
 
-cast-store-header : tie.Need-overflow-cast-store-header
+cast-store-header : tie.Need-overflow_cast-count
 cast-store-header c = search rules
 
-cast-store-header-2 : tie.Need-overflow-cast-store-header-2
+cast-store-header-2 : tie.Need-overflow_cast-words
 cast-store-header-2 c = omega (arith, short c.before)
 
-cast-store-header-3 : tie.Need-overflow-cast-store-header-3
+cast-store-header-3 : tie.Need-overflow_cast-masks
 cast-store-header-3 c = omega (arith, short c.before)
 
-store-header-requires : tie.Need-store-header-requires
+store-header-requires : tie.Need-store_header-requires
 store-header-requires c κs =
     let w = c.before in (
       omega (arith, room w),
       (
-        omega (arith, w.before.count-params.ensures.1),
+        omega (arith, w.count_params-count.ensures.1),
         (omega (arith, short w), omega (arith, short w)),
       ),
     )
 
-store-params-requires : tie.Need-store-params-requires
+store-params-requires : tie.Need-store_params-requires
 store-params-requires c κs =
     let h = c.before.before.before in
     let w = h.before.before in
-    (omega (arith, room w, params w, h.store-header.auto), (begin w).requires.params)
+    (omega (arith, room w, params w, h.store_header.auto), (begin w).requires.params)
 
-store-commands-requires : tie.Need-store-commands-requires
+store-commands-requires : tie.Need-store_commands-requires
 store-commands-requires c κs =
     let p = c.before.before.before in
     let h = p.before.before.before.before in
     let w = h.before.before in
-    (omega (arith, room w, words w, h.store-header.auto, p.store-params.auto), (begin w).requires.commands)
+    (omega (arith, room w, words w, h.store_header.auto, p.store_params.auto), (begin w).requires.commands)
 
-sub-store-masks : tie.Need-overflow-sub-store-masks
+sub-store-masks : tie.Need-slice_bounds-store_masks-count
 sub-store-masks c = search rules
 
-part-store-masks-start : tie.Need-slice-bounds-store-masks-start
+part-store-masks-start : tie.Need-slice_bounds-store_masks-start
 part-store-masks-start c = search rules
 
-part-store-masks-end : tie.Need-slice-bounds-store-masks-end
+part-store-masks-end : tie.Need-slice_bounds-store_masks-end
 part-store-masks-end c =
     let k = c.before.before in
     let p = k.before.before.before.before in
     let h = p.before.before.before.before in
     let w = h.before.before in
-    omega (arith, room w, h.store-header.auto, p.store-params.auto, k.store-commands.auto)
+    omega (arith, room w, h.store_header.auto, p.store_params.auto, k.store_commands.auto)
 
-store-masks-requires : tie.Need-store-masks-requires
+store-masks-requires : tie.Need-store_masks-requires
 store-masks-requires c κs = search rules
 
-same_length : tie.Need-same-length
+same_length : tie.Need-shape_of-script
 same_length c = search rules
 
 returns : tie.Need-returns
@@ -121,18 +121,18 @@ returns c =
     let h = p.before.before.before.before in
     let w = h.before.before in
     let a = (begin w).args in
-    let at = 4 * (8 + w.before.count-params.result + (length a.commands.now + w.count-masks.result)) in
+    let at = 4 * (8 + w.count_params-count.result + (length a.commands.now + w.count_masks.result)) in
     let n = script-length (asked w) in (
       omega (arith, params w, words w, n),
       parts-over (asked w) a.script.now (begin w).requires.there
-          at (at + 4 * padded (length a.masks.now) - at) (rw (params w, words w) at h.store-header.ensures)
-          p.store-params.ensures
-          (rw (params w) at k.store-commands.ensures) m.store-masks.ensures (omega (arith, params w, words w))
+          at (at + 4 * padded (length a.masks.now) - at) (rw (params w, words w) at h.store_header.ensures)
+          p.store_params.ensures
+          (rw (params w) at k.store_commands.ensures) m.store_masks.ensures (omega (arith, params w, words w))
           (omega arith),
     )
 
-pub write-parts-spec : {M : Type 1} → statement M
-write-parts-spec =
+pub write_parts_spec : {M : Type 1} → statement M
+write_parts_spec =
     tie.close
     (tie.spec
     count-params-requires

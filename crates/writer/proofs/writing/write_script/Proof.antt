@@ -23,31 +23,31 @@ abbrev asked : tie.Start → Given
 asked s = given s.args.scale s.args.params s.args.commands.now s.args.masks.now
 
 -- no test before that of the room holds
-module _ (c : tie.Else1) where
+module _ (c : tie.Else-code-ne0) where
   abbrev begin : tie.Start
   begin = c.before.before.before.before.before
 
   fine : first_or (Written 0) (before (asked begin)) ≡ Written 0
   fine =
-      let k = c.before.before.check-given in
-      before-fine (asked begin) (omega (arith, ap write_number k.ensures, c.before.code.ensures, c.if1.false))
+      let k = c.check_given-fault in
+      before-fine (asked begin) (omega (arith, ap write_number k.ensures, c.code.ensures, c.if-code-ne0.false))
 
 -- what is tested of the room
-module _ (c : tie.After-no-room) where
-  abbrev tested : tie.Else1
+module _ (c : tie.After-no_room) where
+  abbrev tested : tie.Else-code-ne0
   tested = c.before.before.before
 
   abbrev from : tie.Start
   from = begin tested
 
-  size : 4 * (8 + c.before.before.count-params.result + (length from.args.commands.now +
-      c.before.count-masks.result) + padded (length from.args.masks.now)) ≡ length (script_for (asked from))
+  size : 4 * (8 + c.count_params-count.result + (length from.args.commands.now +
+      c.count_masks.result) + padded (length from.args.masks.now)) ≡ length (script_for (asked from))
   size =
       omega (
         arith,
         script-length (asked from),
-        c.before.before.count-params.ensures.0,
-        c.before.count-masks.ensures.0,
+        c.count_params-count.ensures.0,
+        c.count_masks.ensures.0,
         commands-length from.args.commands.now,
       )
 
@@ -56,12 +56,12 @@ module _ (c : tie.After-no-room) where
       ap (λ (n : ℕ). (room_row n (length from.args.script.now)).fault) (sym size) ∙ sym c.no_room.ensures
 
 -- where there is room
-module _ (c : tie.Else2) where
+module _ (c : tie.Else-no_room) where
   abbrev start : tie.Start
   start = from c.before
 
   there : (room_row (length (script_for (asked start))) (length start.args.script.now)).fault ≡ false
-  there = decided c.before ∙ c.if2.false
+  there = decided c.before ∙ c.if-no_room.false
 
   fits : (length (script_for (asked start)) ≤ length start.args.script.now) ×
       (length (script_for (asked start)) ≤ 65536)
@@ -76,43 +76,43 @@ module _ (c : tie.Else2) where
       by-room (asked start) (length start.args.script.now) (fine (tested c.before)) ∙
       ap (λ (b : Bool). cond b ScriptRoom (Written (length (script_for (asked start))))) there
 
-check-given-requires : tie.Need-check-given-requires
+check-given-requires : tie.Need-check_given-fault-requires
 check-given-requires c κs = search rules
 
 code-requires : tie.Need-code-requires
 code-requires c κs = search rules
 
-returns : tie.Need-returns
+returns : tie.Need-returns-then-code-ne0
 returns c =
     let s = c.before.before.before.before.before in
-    let k = c.before.before.check-given in
+    let k = c.check_given-fault in
     wrote_nothing (asked s) s.args.script.now k.result
     (k.ensures ∙ sym (refused-before (asked s) (length s.args.script.now)
-    (omega (arith, ap write_number k.ensures, c.before.code.ensures, c.if1.true))))
-    (omega (arith, c.before.code.ensures, c.if1.true))
+    (omega (arith, ap write_number k.ensures, c.code.ensures, c.if-code-ne0.true))))
+    (omega (arith, c.code.ensures, c.if-code-ne0.true))
 
-count-params-requires : tie.Need-count-params-requires
+count-params-requires : tie.Need-count_params-count-requires
 count-params-requires c κs = fine-params (asked (begin c)) (fine c)
 
-count-masks-requires : tie.Need-count-masks-requires
+count-masks-requires : tie.Need-count_masks-requires
 count-masks-requires c κs = search rules
 
-add_words : tie.Need-overflow-add-words
+add_words : tie.Need-overflow_add-words
 add_words c = search rules
 
-no-room-requires : tie.Need-no-room-requires
+no-room-requires : tie.Need-no_room-requires
 no-room-requires c κs = search rules
 
-returns-2 : tie.Need-returns-2
+returns-2 : tie.Need-returns-then-no_room
 returns-2 c =
     let t = c.before in
     let s = from t in
     let n = length (script_for (asked s)) in
     wrote_nothing (asked s) s.args.script.now ScriptRoom
     (sym (by-room (asked s) (length s.args.script.now) (fine (tested t)) ∙
-    ap (λ (b : Bool). cond b ScriptRoom (Written n)) (decided t ∙ c.if2.true))) (omega arith)
+    ap (λ (b : Bool). cond b ScriptRoom (Written n)) (decided t ∙ c.if-no_room.true))) (omega arith)
 
-write-parts-requires : tie.Need-write-parts-requires
+write-parts-requires : tie.Need-write_parts-requires
 write-parts-requires c κs =
     let e = c.before in
     let s = start e in
@@ -129,19 +129,19 @@ write-parts-requires c κs =
       there = (fits e).0;
     }
 
-same_length : tie.Need-same-length
+same_length : tie.Need-shape_of-script
 same_length c = search rules
 
-returns-3 : tie.Need-returns-3
+returns-3 : tie.Need-returns
 returns-3 c =
-    let w = c.before.before in
-    let e = w.before.before in
+    let w = c in
+    let e = w.before.before.before.before in
     let s = start e in
-    wrote-script (asked s) s.args.script.now w.write-parts.result w.write-parts.new.1.1.1.1.0
-    (ap Written w.write-parts.ensures.0 ∙ sym (written e)) w.write-parts.ensures.1
+    wrote-script (asked s) s.args.script.now w.write_parts.result w.write_parts.new.1.1.1.1.0
+    (ap Written w.write_parts.ensures.0 ∙ sym (written e)) w.write_parts.ensures.1
 
-pub write-script-spec : {M : Type 1} → statement M
-write-script-spec =
+pub write_script_spec : {M : Type 1} → statement M
+write_script_spec =
     tie.close
     (tie.spec
     check-given-requires

@@ -4,15 +4,15 @@ use Rattle.hints.specs.Hints.{countered}
 use Rattle.hints.proofs.hints.Hints.counter.Statement.{statement}
 use Rattle.hints.proofs.hints.Hints.counter.Tie as tie
 
-with-initial-requires : tie.Need-with-initial-requires
+with-initial-requires : tie.Need-with_initial-based-requires
 with-initial-requires c κs = search rules
 
-build-map-requires : tie.Need-build-map-requires
+build-map-requires : tie.Need-build_map-thrown-requires
 build-map-requires c κs = search rules
 
 returns : tie.Need-returns
 unfolding countered
-returns c = simp (c.before.build-map.ensures, c.before.before.before.before.with-initial.ensures)
+returns c = simp (c.build_map-thrown.ensures, c.with_initial-based.ensures)
 
-pub counter-spec : {M : Type 1} → statement M
-counter-spec = tie.close (tie.spec with-initial-requires build-map-requires returns)
+pub counter_spec : {M : Type 1} → statement M
+counter_spec = tie.close (tie.spec with-initial-requires build-map-requires returns)

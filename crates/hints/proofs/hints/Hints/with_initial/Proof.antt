@@ -4,16 +4,16 @@ use Rattle.hints.specs.Hints.{with_initial}
 use Rattle.hints.proofs.hints.Hints.with_initial.Statement.{statement}
 use Rattle.hints.proofs.hints.Hints.with_initial.Tie as tie
 
-returns : tie.Need-returns
+returns : tie.Need-returns-then-initial
 unfolding with_initial
-returns c = rw c.if1.true
+returns c = rw c.if-initial.true
 
-build-initial-requires : tie.Need-build-initial-requires
+build-initial-requires : tie.Need-build_initial-made-requires
 build-initial-requires c κs = search rules
 
-returns-2 : tie.Need-returns-2
+returns-2 : tie.Need-returns
 unfolding with_initial
-returns-2 c = rw (c.build-initial.ensures, c.before.before.if1.false)
+returns-2 c = rw (c.build_initial-made.ensures, c.if-initial.false)
 
-pub with-initial-spec : {M : Type 1} → statement M
-with-initial-spec = tie.close (tie.spec returns build-initial-requires returns-2)
+pub with_initial_spec : {M : Type 1} → statement M
+with_initial_spec = tie.close (tie.spec returns build-initial-requires returns-2)

@@ -8,18 +8,18 @@ use Rattle.hints.proofs.hints.Hints.with_mask.Tie as tie
 same-requires : tie.Need-same-requires
 same-requires c κs = search rules
 
-returns : tie.Need-returns
+returns : tie.Need-returns-then-same
 unfolding with_mask
-returns c = rw (sym c.before.same.ensures, c.if1.true)
+returns c = rw (sym c.same.ensures, c.if-same.true)
 
-invalidate-requires : tie.Need-invalidate-requires
+invalidate-requires : tie.Need-invalidate-invalid-requires
 invalidate-requires c κs = search rules
 
-returns-2 : tie.Need-returns-2
+returns-2 : tie.Need-returns
 unfolding with_mask
 returns-2 c =
     let e = c.before.before in
-    simp (c.invalidate.ensures, sym e.before.same.ensures, e.if1.false)
+    simp (c.invalidate-invalid.ensures, sym e.same.ensures, e.if-same.false)
 
-pub with-mask-spec : {M : Type 1} → statement M
-with-mask-spec = tie.close (tie.spec same-requires returns invalidate-requires returns-2)
+pub with_mask_spec : {M : Type 1} → statement M
+with_mask_spec = tie.close (tie.spec same-requires returns invalidate-requires returns-2)

@@ -8,9 +8,9 @@ use Rattle.run.proofs.kept.Sizes.counter.Tie as tie
 returns : tie.Need-returns
 returns c =
     let i = c.before.before.before.before.before.before in
-    let b = i.with-initial.ensures.0 in
-    let m = c.make-map.ensures.0 in
-    let a = i.before.before.before.before.before.args in
+    let b = i.with_initial-sizes.ensures.0 in
+    let m = c.make_map.ensures.0 in
+    let a = i.args in
     let st = state_in a.gauge a.zones.now in (
       record {
         build = record {
@@ -20,8 +20,8 @@ returns c =
         };
         kept = λ h bs ms k. counter-kept st h _ bs _ _ ms a.mask _ _ _ _ (b.kept h bs ms k) m;
       },
-      c.make-map.ensures.1,
+      c.make_map.ensures.1,
     )
 
-pub counter-spec : {M : Type 1} → statement M
-counter-spec = tie.close (tie.spec (λ c κs. search rules) (λ c κs. search rules) returns)
+pub counter_spec : {M : Type 1} → statement M
+counter_spec = tie.close (tie.spec (λ c κs. search rules) (λ c κs. search rules) returns)

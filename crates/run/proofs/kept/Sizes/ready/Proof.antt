@@ -8,13 +8,13 @@ use Rattle.run.proofs.kept.Sizes.ready.Tie as tie
 
 returns : tie.Need-returns
 returns c =
-    let n = c.before.before.before.before.before.before in
-    let i = n.before.before in
-    let b = i.with-initial.ensures.0 in
-    let m = c.make-map.ensures.0 in
-    let s = i.before.before.before.before.before in
+    let n = c in
+    let i = n in
+    let b = i.with_initial-based.ensures.0 in
+    let m = c.make_map-len.ensures.0 in
+    let s = i in
     let st = state_in s.args.gauge s.args.zones.now in
-    let e = n.new.ensures ∙ twelve_bytes _ s.requires.0.twelve in (
+    let e = n.new-present.ensures ∙ twelve_bytes _ s.requires.0.twelve in (
       record {
         map = record {
           build = record {
@@ -29,8 +29,8 @@ returns c =
         kept = λ h ms v k. ready-kept st h _ _ _ _ ms _ _ _ _ (k.map.valid ∙ v) (b.kept h _ ms k)
             (rw e at m);
       },
-      c.make-map.ensures.1,
+      c.make_map-len.ensures.1,
     )
 
-pub ready-spec : {M : Type 1} → statement M
-ready-spec = tie.close (tie.spec (λ c κs. search rules) (λ c κs. search rules) (λ c κs. search rules) returns)
+pub ready_spec : {M : Type 1} → statement M
+ready_spec = tie.close (tie.spec (λ c κs. search rules) (λ c κs. search rules) (λ c κs. search rules) returns)

@@ -6,7 +6,7 @@ use Rattle.run.proofs.Building.{stays-based, gets-based}
 use Rattle.run.proofs.kept.Sizes.with_initial.Statement.{statement}
 use Rattle.run.proofs.kept.Sizes.with_initial.Tie as tie
 
-returns : tie.Need-returns
+returns : tie.Need-returns-then-self
 returns c =
     let s = c.before in
     let a = s.args in
@@ -14,24 +14,24 @@ returns c =
       record {
         whole = s.requires.0;
         fits = s.requires.1.0;
-        kept = λ h bs ms k. stays-based st h a.self bs _ _ ms k c.if1.true;
+        kept = λ h bs ms k. stays-based st h a.self bs _ _ ms k c.if-self.true;
       },
       s.requires.1.1,
     )
 
-returns-2 : tie.Need-returns-2
+returns-2 : tie.Need-returns
 returns-2 c =
     let e = c.before.before.before.before in
-    let a = e.before.args in
+    let a = e.args in
     let st = state_in a.gauge a.zones.now in
-    let m = c.make-initial.ensures.0 in (
+    let m = c.make_initial-len.ensures.0 in (
       record {
         whole = m.lent.whole;
         fits = m.lent.fits;
-        kept = λ h bs ms k. gets-based st h a.self bs _ _ ms k _ _ _ e.if1.false m;
+        kept = λ h bs ms k. gets-based st h a.self bs _ _ ms k _ _ _ e.if-self.false m;
       },
-      c.make-initial.ensures.1,
+      c.make_initial-len.ensures.1,
     )
 
-pub with-initial-spec : {M : Type 1} → statement M
-with-initial-spec = tie.close (tie.spec returns (λ c κs. search rules) returns-2)
+pub with_initial_spec : {M : Type 1} → statement M
+with_initial_spec = tie.close (tie.spec returns (λ c κs. search rules) returns-2)

@@ -23,12 +23,12 @@ use Rattle.run.specs.Kept.{Kept}
 use Rattle.run.proofs.kept.Sizes.with_mask.Statement.{statement}
 use Rattle.run.proofs.kept.Sizes.with_mask.Tie as tie
 
-abbrev invariant-loop : tie.invariant-loop
+abbrev invariant-loop : tie.invariant-loop-i
 invariant-loop self mask₀ given same₀ i₀ mask same i =
     (i ≤ 12) × ((length mask ≡ 12) × ((take i mask ≡ take i given.bytes) ×
     (same_bytes given.bytes mask₀ ≡ same && same_bytes (drop i given.bytes) (drop i mask))))
 
-abbrev decreases-loop : tie.decreases-loop
+abbrev decreases-loop : tie.decreases-loop-i
 decreases-loop self mask₀ given same₀ i₀ mask same i = 12 - i
 
 module _ (a b : List ℕ) (i : ℕ) (h : i < length a) (k : i < length b) where
@@ -42,67 +42,67 @@ module _ (a b : List ℕ) (i : ℕ) (h : i < length a) (k : i < length b) where
   unfolding same_bytes
   more = rw (drop-set-lt (i + 1) b i (get_or a i 0) (omega arith), add-one, drop-cons a i 0, drop-cons b i 0)
 
-twelve : (s : tie.Start invariant-loop decreases-loop) → length s.args.t3.bytes ≡ 12
+twelve : (s : tie.Start invariant-loop decreases-loop) → length s.args.given.bytes ≡ 12
 twelve s = search rules
 
-loop-again : tie.Need-loop-preserved invariant-loop decreases-loop
+loop-again : tie.Need-loop-i-preserved invariant-loop decreases-loop
 loop-again c =
-    let l = c.before.before.before.before in
-    let n = twelve l.before in
-    let g = l.before.args.t3.bytes in
-    let i = l.loop.i in
+    let l = c in
+    let n = twelve l.before.before.before.before.before.before.before in
+    let g = l.args.given.bytes in
+    let i = l.loop-i.i in
     let p : i < length g = omega arith in
-    let q : i < length l.loop.mask = omega arith in
-    let e = rw (more g l.loop.mask i p q) at l.loop.invariant.1.1.1 in (
+    let q : i < length l.loop-i.mask = omega arith in
+    let e = rw (more g l.loop-i.mask i p q) at l.loop-i.invariant.1.1.1 in (
       omega arith,
       (
-        simp length-set l.loop.invariant.1.0,
+        simp length-set l.loop-i.invariant.1.0,
         (
-          copied g l.loop.mask i p q l.loop.invariant.1.1.0,
+          copied g l.loop-i.mask i p q l.loop-i.invariant.1.1.0,
           ⊎_elim
-              (λ w. rw w.1 (rw (ne_eqb _ _ w.0.taken) at e ∙ and-false l.loop.same))
-              (λ w. rw w.1 (rw (eq-eqb _ _ w.0.left) at e)) c.if1.branch,
+              (λ w. rw w.1 (rw (ne_eqb _ _ w.0.true) at e ∙ and-false l.loop-i.same))
+              (λ w. rw w.1 (rw (eq-eqb _ _ w.0.left) at e)) c.if-byte-mask.branch,
         ),
       ),
     )
 
 -- ---- after the loop
-module _ (c : tie.After-loop invariant-loop decreases-loop) where
-  abbrev l : tie.At-loop invariant-loop decreases-loop
+module _ (c : tie.After-loop-i invariant-loop decreases-loop) where
+  abbrev l : tie.At-loop-i invariant-loop decreases-loop
   l = c.before
 
   abbrev given : HintMask
-  given = l.before.args.t3
+  given = l.args.given
 
   -- all bytes are those given
-  all-given : given ≡ of_bytes l.loop.mask
+  all-given : given ≡ of_bytes l.loop-i.mask
   all-given =
       let n = twelve l.before in
-      ap of_bytes (sym (take_all l.loop.i given.bytes (omega arith)) ∙ sym l.loop.inv.1.1.0 ∙
-      take_all l.loop.i l.loop.mask (omega arith))
+      ap of_bytes (sym (take_all l.loop-i.i given.bytes (omega arith)) ∙ sym l.loop-i.invariant.1.1.0 ∙
+      take_all l.loop-i.i l.loop-i.mask (omega arith))
 
   -- the answer is that for all bytes
-  answered : same_bytes given.bytes l.before.args.mask.now ≡ l.loop.same
+  answered : same_bytes given.bytes l.args.mask.now ≡ l.loop-i.same
   unfolding same_bytes
   answered =
       let n = twelve l.before in
-      l.loop.inv.1.1.1 ∙ rw (
-        drop_of_length-le given.bytes {i = l.loop.i} (omega arith),
-        drop_of_length-le l.loop.mask {i = l.loop.i} (omega arith),
+      l.loop-i.invariant.1.1.1 ∙ rw (
+        drop_of_length-le given.bytes {i = l.loop-i.i} (omega arith),
+        drop_of_length-le l.loop-i.mask {i = l.loop-i.i} (omega arith),
       )
-      (and-true l.loop.same)
+      (and-true l.loop-i.same)
 
   -- the test of the hints is the loop's
-  asked : {st : HintState} {h : Hints} {ns is ms : List ℤ} (t : Bool) → l.loop.same ≡ t →
-      Kept st h l.before.args.self l.before.args.mask.now ns is ms → with_mask given h ≡ mask_by t given h
+  asked : {st : HintState} {h : Hints} {ns is ms : List ℤ} (t : Bool) → l.loop-i.same ≡ t →
+      Kept st h l.args.self l.args.mask.now ns is ms → with_mask given h ≡ mask_by t given h
   unfolding with_mask
   asked t e k = rw (k.mask, answered ∙ e)
 
-returns : tie.Need-returns invariant-loop decreases-loop
+returns : tie.Need-returns-then-not-same invariant-loop decreases-loop
 returns c =
     record {
-      twelve = (l c.before).loop.inv.1.0;
-      kept = λ st h ns is ms k. rw (asked c.before false (not-true _ c.if2.true) k)
+      twelve = (l c.before).loop-i.invariant.1.0;
+      kept = λ st h ns is ms k. rw (asked c.before false (not-true _ c.if-not-same.true) k)
           record {
             stems = k.stems;
             mask = all-given c.before;
@@ -117,11 +117,11 @@ returns c =
           };
     }
 
-returns-2 : tie.Need-returns-2 invariant-loop decreases-loop
+returns-2 : tie.Need-returns-else-not-same invariant-loop decreases-loop
 returns-2 c =
-    let same = not-false _ c.if2.false in
+    let same = not-false _ c.if-not-same.false in
     record {
-      twelve = (l c.before).loop.inv.1.0;
+      twelve = (l c.before).loop-i.invariant.1.0;
       kept = λ st h ns is ms k. rw (asked c.before true same k)
           record {
             stems = k.stems;
@@ -131,8 +131,8 @@ returns-2 c =
           };
     }
 
-pub with-mask-spec : {M : Type 1} → statement M
-with-mask-spec =
+pub with_mask_spec : {M : Type 1} → statement M
+with_mask_spec =
     tie.close
     (tie.spec invariant-loop decreases-loop (λ c. (omega arith, (c.requires, (refl, refl)))) (λ c. search rules) (λ c. search rules)
     (λ c. search rules) (λ c. search rules) (λ c. search rules) loop-again returns returns-2)

@@ -32,19 +32,19 @@ module _ (s : tie.Start) where
   -- a stem that is not taken
   ignored : not s.args.self.valid && ltb s.args.self.stems 96 ≡ false →
       Stemmed s.args.self s.args.stems.now s.args.min s.args.max s.args.self s.args.stems.now
-  ignored e = record { long = s.pre; kept = λ st h bs is ms k. rw (asked false e k) k }
+  ignored e = record { long = s.requires; kept = λ st h bs is ms k. rw (asked false e k) k }
 
-returns-2 : tie.Need-returns-2
+returns-2 : tie.Need-returns-then-count-lt-MAX_HINTS
 unfolding stems_in
 returns-2 c =
     let s = c.before.before.before.before in
-    let p = c.before.before.if2.true in
+    let p = c.if-count-lt-MAX_HINTS.true in
     let n = s.args.self.stems in
-    let e = c.put-stem.ensures in
+    let e = c.put_stem.ensures in
     let stem = unused_stem s.args.min s.args.max in
     record {
       long = rw e (set_long s.args.stems.now s.requires n p stem);
-      kept = λ st h bs is ms k. rw (asked s true (rw c.before.before.before.if1.false (lt-ltb n 96 p)) k)
+      kept = λ st h bs is ms k. rw (asked s true (rw c.if-self.false (lt-ltb n 96 p)) k)
           record {
             stems =
                 rw (e, stem-put s.args.stems.now s.requires n p stem (n + 1))
@@ -56,8 +56,8 @@ returns-2 c =
           };
     }
 
-pub with-stem-spec : {M : Type 1} → statement M
-with-stem-spec =
+pub with_stem_spec : {M : Type 1} → statement M
+with_stem_spec =
     tie.close
-    (tie.spec (λ c. ignored c.before (rw c.if1.true)) (λ c κs. search rules) (λ c. search rules) returns-2
-    (λ c. ignored c.before.before (rw c.before.if1.false (le-ltb _ 96 c.if2.false))))
+    (tie.spec (λ c. ignored c.before (rw c.if-self.true)) (λ c κs. search rules) (λ c. search rules) returns-2
+    (λ c. ignored c.before.before (rw c.if-self.false (le-ltb _ 96 c.if-count-lt-MAX_HINTS.false))))
