@@ -3,12 +3,14 @@ ghost use Rattle.std.specs.Prelude.{◌≤◌};
 
 use crate::tables;
 use crate::tables::Rows;
+use std::io;
+use std::io::Read;
 use stems::{HintMask, MAX_HINTS, take_first};
 
-pub(crate) fn run() {
-    tables::run(b"masks", Rows::Masks);
-    tables::run(b"same masks", Rows::SameMasks);
-    tables::run(b"active stems", Rows::ActiveStems);
+pub(crate) fn run<R: Read>(rt: &impl Print, input: &mut R) -> io::Result<()> {
+    tables::run(rt, input, b"masks", Rows::Masks)?;
+    tables::run(rt, input, b"same masks", Rows::SameMasks)?;
+    tables::run(rt, input, b"active stems", Rows::ActiveStems)
 }
 
 // A row: a count and so many bytes, the mask's 12 bytes; a bit, 1 if it is active, and the 12 bytes
