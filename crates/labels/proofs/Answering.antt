@@ -103,9 +103,15 @@ module _ (l : Label) (room : ℕ) where
     by-measure o =
         let gs = glyphs_in l in
         let st = state_of l.params l.scale in
-        rw (e, result-is st gs, sizes-are st gs)
-        (onward-else (Written 0) (Written (sum_from (header_of (length gs)) (map size_of gs)))
-        (open_rows l.scale l.params) (glyph_rows 1 gs ++ room_rows room 0 (header_of (length gs)) (map size_of gs))
+        let ok = Written (sum_from (header_of (length gs)) (map size_of gs)) in
+        let opens = open_rows l.scale l.params in
+        rw e
+        (ap (λ (n : ℕ). first_or (Written n)
+        (opens ++ (glyph_rows 1 gs ++ room_rows room 0 (header_of (length gs)) (map length (records_in l)))))
+        (result-is st gs) ∙
+        ap (λ (ns : List ℕ). first_or ok (opens ++ (glyph_rows 1 gs ++ room_rows room 0 (header_of (length gs)) ns)))
+        (sizes-are st gs) ∙
+        onward-else (Written 0) ok opens (glyph_rows 1 gs ++ room_rows room 0 (header_of (length gs)) (map size_of gs))
         (open-refusing l.scale l.params) o)
 
 -- ---- what an answer that does not refuse leaves

@@ -1,7 +1,7 @@
 -- Laws of the filling: how it stands before a glyph, a glyph more, and where it ends. Assumes nothing.
 use mathlib.Core.Path.{◌≡◌, refl, sym, ap, subst, ◌∙◌}
 use mathlib.Core.List.{List, [], ◌∷◌, ◌++◌, map}
-use Prim.Native.Nat.{ℕ, ◌+◌, ◌-◌, ◌*◌, ◌/◌, ◌≤◌, ◌<◌}
+use Prim.Native.Nat.{ℕ, ◌+◌, ◌/◌, ◌≤◌, ◌<◌}
 use native.Mathlib.Omega.{arith}
 use lib.IntN.{ℤ, pos}
 use lib.ListN.{length, take, drop, length-drop, length-map}
@@ -13,8 +13,8 @@ use Rattle.hints.specs.Calls.{new_drawing}
 use Rattle.words.specs.Bytes.{placed}
 use Rattle.words.proofs.Placing.{placed-length}
 use Rattle.run.specs.declared.running.Ran.{Ran}
-use Rattle.run.specs.Run.{steps_of, ending_of, ran_of, Ended}
-use Rattle.run.specs.Room.{Fitted, fitted, words_along}
+use Rattle.run.specs.Run.{steps_of, ran_of, Ended}
+use Rattle.run.specs.Room.{Fitted}
 use Rattle.run.proofs.Rooms.{fits_whole}
 use Rattle.run.proofs.Counting.{counted}
 use Rattle.labels.specs.Glyphs.{Glyph, glyph, glyphs_of, calls_in, records_of}

@@ -10,7 +10,6 @@ use lib.ListN.{length, take, drop, get_or}
 use lib.Seq.{take_at}
 use Rattle.pen.specs.Records.{written}
 use Rattle.words.specs.declared.answer.Answer.{Answer}
-use Rattle.words.specs.declared.answer.Answer.TheVariants.{Ok}
 use Rattle.words.proofs.Answers.{says_is}
 use Rattle.script.specs.Script.{Result, result_words, script_of, Scripted}
 use Rattle.labels.specs.declared.label_answer.LabelAnswer.{LabelAnswer}

@@ -100,7 +100,7 @@ steps-behind st d (c ∷ cs) ds =
 reached-after : {st : HintState} {d : Drawing} → Reached st d → (cs : List Asked) → Reached st (drawing_after st d cs)
 unfolding drawing_after
 reached-after r [] = r
-reached-after r (c ∷ cs) = reached-after (reached-next r c.call) cs
+reached-after {st = st} {d = d} r (c ∷ cs) = reached-after {d = next_of st d c.call} (reached-next r c.call) cs
 
 -- and so does what is made on the way
 made-along : (Was : Drawing → Type 0) (st : HintState) (d : Drawing) (cs : List Asked) →

@@ -2,4 +2,3 @@
 // specs/Demand3), what definitions that follow a loop come to (specs/Fitting), whole records
 // (specs/WholeRecords), and the records of a map's edges (specs/Listed).
 #![tactic(auto)]
-

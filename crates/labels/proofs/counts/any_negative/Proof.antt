@@ -8,8 +8,8 @@ use lib.ListN.{drop}
 use borrow.Author.Rules.{rules}
 use borrow.Author.Tests.{le-leb, lt-leb}
 use Rattle.words.specs.Words.{negative}
-use Rattle.labels.specs.Glyphs.{below0, any_negative}
-use Rattle.labels.proofs.Walking.{at, negative-at, negative-none}
+use Rattle.labels.specs.Glyphs.{any_negative}
+use Rattle.labels.proofs.Walking.{negative-at, negative-none}
 use Rattle.labels.proofs.counts.any_negative.Statement.{statement}
 use Rattle.labels.proofs.counts.any_negative.Tie as tie
 

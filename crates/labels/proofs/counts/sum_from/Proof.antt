@@ -1,6 +1,6 @@
 -- `sum_from` sums up every other length. The loop's invariant: the sum so far and that of the
 -- lengths from here on are the whole; each is below 2^32, and there are at most 128. Assumes nothing.
-use mathlib.Core.Path.{◌≡◌, refl, sym, ap, ◌∙◌}
+use mathlib.Core.Path.{◌≡◌}
 use Prim.Native.Nat.{◌+◌, ◌-◌, ◌*◌, ◌≤◌}
 use native.Mathlib.Omega.{arith}
 use lib.ListN.{length, drop}

@@ -1,9 +1,8 @@
 -- `fill` sets the glyphs first to last, each behind the records before it. Assumes nothing.
 use mathlib.Core.Path.{◌≡◌, refl, sym, ap, subst, ◌∙◌}
-use mathlib.Core.List.{List, map}
-use Prim.Native.Nat.{ℕ, ◌+◌, ◌-◌, ◌*◌, ◌/◌, ◌≤◌, ◌<◌}
+use mathlib.Core.List.{map}
+use Prim.Native.Nat.{◌+◌, ◌-◌, ◌≤◌, ◌<◌}
 use native.Mathlib.Omega.{arith}
-use lib.IntN.{ℤ}
 use lib.ListN.{length, take, drop}
 use borrow.Author.Rules.{rules}
 use borrow.Author.Tests.{leb-false}
@@ -34,7 +33,7 @@ decreases-loop commands masks lengths out₀ zones gauge stems₀ initial₀ map
 
 -- the numbers and the list of zones that glyphs are lent
 abbrev lent-state : tie.After-gauge-gauge invariant-loop decreases-loop → HintState
-lent-state g = state_in g.gauge-gauge.result g.list.last.1.0
+lent-state g = state_in g.gauge-gauge.result g.list.new.zones
 
 put-two-requires : tie.Need-put_two-requires invariant-loop decreases-loop
 put-two-requires c κs =
@@ -49,7 +48,7 @@ loop-holds c =
     let s = c in
     let a = s.args in (
       filling a.lengths.now a.commands.now a.masks.now (lent-state c.before.before.before)
-          c.put_two.new.0 (rw c.put_two.auto.0 s.requires),
+          c.put_two.new.out (rw c.put_two.auto.out s.requires),
       record { long = refl; whole = record { all = refl; named = refl }; current = refl; notes = refl },
     )
 
@@ -117,7 +116,7 @@ module _ (c : tie.After-fill_glyph-words invariant-loop decreases-loop) where
   Set g =
       GlyphSet (lent-state (turn lengths).before.before.before.before) g (2 + (turn lengths).loop-at.at)
       (turn lengths).loop-at.next (turn lengths).loop-at.out c.fill_glyph-words.result
-      c.fill_glyph-words.new.1.1.1.1.1.1.1.1.1.0
+      c.fill_glyph-words.new.out
 
   set : Set (here lengths)
   set = subst Set (lent lengths) c.fill_glyph-words.ensures.0
@@ -139,7 +138,7 @@ loop-again c =
     )
 
 same_length : tie.Need-shape_of-out invariant-loop decreases-loop
-same_length c = c.loop-at.invariant.0.same ∙ c.put_two.auto.0
+same_length c = c.loop-at.invariant.0.same ∙ c.put_two.auto.out
 
 returns : tie.Need-returns invariant-loop decreases-loop
 returns c =
@@ -150,7 +149,7 @@ returns c =
     let gs = glyphs_of a.lengths.now a.commands.now a.masks.now in
     let m = 2 + length a.lengths.now in
     filled c.loop-at.invariant.0 (omega arith) ∙
-    ap (λ (st : HintState). laid_from 2 m (map (records_of st) gs) p.put_two.new.0)
+    ap (λ (st : HintState). laid_from 2 m (map (records_of st) gs) p.put_two.new.out)
     (state-is a.state _ _ g.gauge-gauge.ensures g.list.ensures) ∙
     ap (laid_from 2 m (map (records_of a.state) gs)) p.put_two.ensures ∙
     laid-result a.lengths.now a.commands.now a.masks.now a.state a.out.now s.requires

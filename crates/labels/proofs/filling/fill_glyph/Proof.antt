@@ -1,11 +1,11 @@
 -- `fill_glyph` has all of a glyph's records written, and puts their place before them. Assumes
 -- nothing.
-use mathlib.Core.Path.{◌≡◌, refl, sym, ap, ◌∙◌}
-use mathlib.Core.List.{List, [], ◌∷◌, ◌++◌}
-use Prim.Native.Nat.{ℕ, ◌+◌, ◌-◌, ◌≤◌, ◌<◌}
+use mathlib.Core.Path.{◌≡◌, ap, ◌∙◌}
+use mathlib.Core.List.{List, [], ◌∷◌}
+use Prim.Native.Nat.{ℕ, ◌-◌, ◌≤◌}
 use native.Mathlib.Omega.{arith}
 use lib.IntN.{ℤ, pos}
-use lib.ListN.{length, take, drop}
+use lib.ListN.{length}
 use borrow.Author.Rules.{rules}
 use borrow.Rule.Slice.PartMut.{put_mid, same_len_mid}
 use Rattle.zones.specs.declared.state.HintState.{HintState}
@@ -36,7 +36,7 @@ module _ (c : tie.After-run_given-ran) where
   next = begin.args.next
 
   ran : (c.run_given-ran.result.words ≡ length (records_of state given)) ×
-      (put_mid next (length out - next) out c.run_given-ran.new.1.1.1.1.1.1.1.1.1.0 ≡
+      (put_mid next (length out - next) out c.run_given-ran.new.out ≡
       placed out next (records_of state given))
   ran =
       let r = ran-whole state given out next begin.requires.0.fits
@@ -76,9 +76,9 @@ same_length : tie.Need-shape_of-out
 same_length c =
     let t = c in
     let r = t.before.before.before.before in
-    t.put_two.auto.0 ∙
-    same_len_mid (next r) (length (out r) - next r) (out r) r.run_given-ran.new.1.1.1.1.1.1.1.1.1.0
-    r.run_given-ran.auto.1.1.1.1.1.1.1.1.1.0
+    t.put_two.auto.out ∙
+    same_len_mid (next r) (length (out r) - next r) (out r) r.run_given-ran.new.out
+    r.run_given-ran.auto.out
 
 returns : tie.Need-returns
 returns c =

@@ -7,7 +7,6 @@ use mir.Syntax.{w32}
 use mir.Val.{SFits}
 use mir.Facts.{to_z-of_z}
 use borrow.Author.Rules.{rules}
-use borrow.Author.Tests.{not-true, not-false}
 use Rattle.fixed.specs.Fixed.{from_bits, less_f}
 use Rattle.words.specs.Rows.{first_or}
 use Rattle.labels.specs.Labels.{open_rows}

@@ -1,6 +1,6 @@
 -- `run_labels` makes the tests in their order, and where none holds the result. Assumes nothing.
-use mathlib.Core.Path.{◌≡◌, refl, sym, ap, ◌∙◌}
-use mathlib.Core.Bool.{true, false}
+use mathlib.Core.Path.{◌≡◌, sym, ap, ◌∙◌}
+use mathlib.Core.Bool.{false}
 use mathlib.Core.List.{List, map}
 use Prim.Native.Nat.{ℕ, min, ◌≤◌, ◌<◌}
 use native.Mathlib.Omega.{arith}
@@ -13,7 +13,7 @@ use Rattle.words.specs.Rows.{first_or}
 use Rattle.zones.specs.declared.state.HintState.{HintState}
 use Rattle.labels.specs.declared.label_answer.LabelAnswer.TheVariants.{Written}
 use Rattle.labels.specs.Answers.{label_number}
-use Rattle.labels.specs.Glyphs.{glyphs_of, miscounted, records_of}
+use Rattle.labels.specs.Glyphs.{miscounted, records_of}
 use Rattle.labels.specs.Labels.{Label, label, glyphs_in, records_in, label_words, open_rows, room_in, label_answer}
 use Rattle.labels.specs.Measured.{measured_of}
 use Rattle.labels.proofs.Answering.{by_count, by-numbers, by-measure, open-fine, measured-fine}

@@ -2,20 +2,17 @@
 -- nothing.
 use mathlib.Core.Path.{◌≡◌, sym, ap, subst, ◌∙◌}
 use mathlib.Core.Bool.{Bool, true, false, cond, not}
-use Prim.Native.Nat.{ℕ, ◌+◌, ◌-◌, ◌*◌, ◌≤◌, ◌<◌}
+use Prim.Native.Nat.{◌+◌, ◌-◌, ◌*◌, ◌≤◌, ◌<◌}
 use native.Mathlib.Omega.{arith}
-use lib.Dec.{eqb}
 use lib.ListN.{length, take, drop, length-drop}
 use lib.Seq.{length-take-le}
 use borrow.Author.Rules.{rules}
 use borrow.Author.Tests.{leb-false, eq-eqb, ne_eqb}
-use Rattle.words.specs.declared.answer.Answer.{Answer}
 use Rattle.words.specs.Answers.{number_of, refuses}
 use Rattle.labels.specs.declared.survey.Surveyed.{Surveyed}
-use Rattle.labels.specs.declared.measure.Taken.{Taken}
 use Rattle.labels.specs.Answers.{in_glyph}
 use Rattle.labels.specs.Glyphs.{Glyph, glyph, fault_of}
-use Rattle.labels.specs.Measured.{size_of, survey_of, taken_by}
+use Rattle.labels.specs.Measured.{size_of, survey_of}
 use Rattle.labels.proofs.Walking.{walk, both-there, first-positive, second-positive, words-there, bytes-there}
 use Rattle.labels.proofs.Walking.{lent-glyph}
 use Rattle.labels.proofs.Measuring.{Measuring, measuring, faulty, counting, full, measured}

@@ -1,6 +1,4 @@
 -- `with` adds a glyph's words where those before it fit. Assumes nothing.
-use mathlib.Core.Path.{sym}
-use lib.Dec.{ltb}
 use borrow.Author.Rules.{rules}
 use borrow.Author.Tests.{lt-ltb, le-ltb}
 use Rattle.labels.specs.Measured.{taken_by}
