@@ -1,7 +1,7 @@
 /* Spoonglacier: hints the glyph that a script draws, and gives back its path as records; hints the
    glyphs of a label at once; writes scripts; and lists the edges by which a glyph is hinted.
 
-   Link target/staticlib/libspoonglacier.a, which `rt staticlib spoonglacier` makes: x86-64 code for
+   Link target/staticlib/libspoonglacier.a, which `tools/make spoonglacier` makes: x86-64 code for
    Linux. docs/SCRIPT.md explains every word of a script and of a result, and how to link from C and
    from Rust; examples/first.c is a whole program, examples/write.c writes a script and runs it,
    examples/edges.c lists a script's edges, and examples/labels.c hints a word of five letters. */

@@ -33,11 +33,6 @@ def without(mask, number):
     return mask[:number] + [0] + mask[number + 1 :]
 
 
-def active_stems(mask):
-    """The numbers of the active stems, in order."""
-    return [number for number, bit in enumerate(mask) if bit]
-
-
 def mask_bytes(mask):
     text = "".join(map(str, mask))
     return [int(text[at : at + 8], 2) for at in range(0, MAX_HINTS, 8)]

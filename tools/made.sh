@@ -19,9 +19,8 @@ readable() {
     [ -r "$1" ] && [ ! -d "$1" ] || stop 2 "cannot read $1"
 }
 stale() {
-    [ ! -e "$program" ] || [ -n "$(find "$root/crates" -newer "$program" -type f -print -quit)" ]
+    [ ! -e "$program" ] || [ -n "$(find "$root/crates" -name out -prune -o -newer "$program" -type f -print -quit)" ]
 }
-# rt leaves the program as it is where its contents would be the same, so it gets a new date here.
 made() {
     local log=$root/target/$1.log
     program=$root/target/bin/$1
@@ -29,8 +28,7 @@ made() {
     command -v rt > /dev/null || stop 3 "$program is missing or old, and there is no rt to make it"
     echo "$tool: proving and making the program, some minutes the first time; log in $log" >&2
     mkdir -p "$root/target"
-    (cd "$root" && rt check "$1") > "$log" 2>&1 || { cat "$log" >&2; stop 3 "the program cannot be made"; }
-    touch "$program"
+    "$root/tools/make" "$1" > "$log" 2>&1 || { cat "$log" >&2; stop 3 "the program cannot be made"; }
 }
 
 command -v python3 > /dev/null || stop 3 "there is no python3 here"

@@ -11,12 +11,12 @@ from itertools import product as combined
 from ..numbers import (
     HALF, HIGH, LOW, ONE, bits, fraction, half, midpoint, output, product, product_quotient, quotient, rounded, wrapped
 )
-from ..stems import MASK_BYTES, MAX_HINTS, Stem, active_stems, edges_of, mask_bytes, mask_of, without
+from ..stems import MASK_BYTES, MAX_HINTS, Stem, edges_of, mask_bytes, mask_of, without
 from ..zones import capture, state_of
 from .fonts import EM_BOX_BLUES, LETTER_BLUES, font, ghost_bottom, ghost_top, in_bits, param_words, seven
 from .form import row
 
-NUMBERS_SEED, STEMS_SEED, WALKS_SEED = 1616, 9612, 6012
+NUMBERS_SEED, STEMS_SEED = 1616, 9612
 
 
 # Numbers. A row has three operands, with 0 for one that is not taken, and the expected bits.
@@ -105,12 +105,6 @@ def same_row(one, other):
     return row([len(one), *one, len(other), *other, int(mask_of(one) == mask_of(other))])
 
 
-def walk_row(given):
-    """A count and so many bytes; how many stems are active, and each of them in order."""
-    active = active_stems(mask_of(given))
-    return row([len(given), *given, len(active), *active])
-
-
 def edges_row(stem, scale, number):
     """A stem, its number and a scale; of the bottom and the top edge kind, lock and heights."""
     numbers = [stem.min, stem.max, int(stem.is_used), stem.ds_min, stem.ds_max, number, scale]
@@ -145,23 +139,6 @@ def masks_to_compare():
     yield [255] * 11 + [0xFE], [255] * MASK_BYTES
 
 
-def masks_to_walk():
-    """No stem, all of them, each alone, ends of bytes, and few of many."""
-    yield []
-    yield [0] * MASK_BYTES
-    yield [255] * MASK_BYTES
-    yield [0] * (MASK_BYTES + 1)
-    for number in range(MAX_HINTS):
-        yield mask_bytes([int(number == stem) for stem in range(MAX_HINTS)])
-    yield [0x81] * MASK_BYTES
-    yield [0x7E, 0] * (MASK_BYTES // 2)
-    yield [0] * 11 + [0x81]
-    drawn_apart = random.Random(WALKS_SEED)
-    for declared in range(60, MAX_HINTS + 1, 3):
-        active = drawn_apart.sample(range(declared), drawn_apart.randrange(3, 7))
-        yield mask_bytes([int(stem in active) for stem in range(MAX_HINTS)])
-
-
 def stems():
     """Ends in 16.16: by width, then widths that wrap, then used stems."""
     yield Stem(*bits(16, 80))
@@ -181,7 +158,6 @@ def masks_and_edges():
     random.seed(STEMS_SEED)
     yield [mask_row(*case) for case in masks()]
     yield [same_row(*case) for case in masks_to_compare()]
-    yield [walk_row(given) for given in masks_to_walk()]
     scales = [2048, 2048, 70000, HIGH]
     yield [edges_row(stem, scales[at % 4], MAX_HINTS - 1 - at) for at, stem in enumerate(stems())]
 

@@ -1,13 +1,13 @@
 -- The moves of notes go into a list that may hold anything: none of its places is read before its note
 -- is made. Assumes nothing.
-use mathlib.Core.Path.{◌≡◌, refl, sym, ap, ◌∙◌}
+use mathlib.Core.Path.{◌≡◌, refl, sym, ◌∙◌}
 use mathlib.Core.Bool.{Bool, true, false, cond}
 use mathlib.Core.List.{List, [], ◌∷◌, map}
 use Prim.Native.Nat.{ℕ, zero, suc, ◌+◌, ◌<◌}
 use native.Mathlib.Omega.{arith}
 use lib.IntN.{ℤ}
 use lib.Dec.{ltb}
-use lib.ListN.{length, get_or, set, replicate, length-set, length-map, length-replicate}
+use lib.ListN.{length, get_or, set, replicate, length-set, length-map}
 use lib.Seq.{get_or-set_other}
 use borrow.Author.Tests.{ltb-true, ltb-false}
 use Rattle.fixed.specs.declared.Fixed.{Fixed}
@@ -15,9 +15,8 @@ use Rattle.fixed.specs.Fixed.{from_bits, ZERO}
 use Rattle.hintmap.specs.declared.map.HintMap.{HintMap}
 use Rattle.adjust.specs.declared.Note.{Note}
 use Rattle.adjust.specs.declared.Note.TheVariants.{Settled, Missing}
-use Rattle.adjust.specs.Adjust.{edge_at, above_of, below_of, settle_of}
-use Rattle.adjust.specs.Pass.{Notes, Pass, upper_of, noted_of, put_back, turn_of, pass_from, first_pass}
-use Rattle.adjust.specs.Second.{retry_of, second_pass, second_of, adjust_of}
+use Rattle.adjust.specs.Pass.{Notes, Pass, upper_of, noted_of, turn_of, pass_from, first_pass}
+use Rattle.adjust.specs.Second.{second_pass, second_of, adjust_of}
 use Rattle.adjust.specs.Adjusted.{notes_in}
 use Rattle.adjust.proofs.Turns.{so_far}
 

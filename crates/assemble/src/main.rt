@@ -11,9 +11,11 @@
 
 mod asked;
 
-ghost use Rattle.std.specs.Prelude.{◌≤◌, length};
+ghost use Rattle.std.specs.Prelude.{◌≤◌, length, IfOk};
 ghost use Rattle.assemble.specs.Asked.{program_bytes, AtStart};
 
+use std::io;
+use std::io::{Read, Write};
 use words::{layout, store};
 
 // The bytes of number and place, and with those of the longest script.
@@ -35,10 +37,25 @@ fn assembled(input: &[u8], out: &mut [u8]) -> usize
     ANSWER_BYTES + answer.written()
 }
 
-fn main() {
+// Reads until the bytes are full or the input ends; how many bytes that is.
+fn read_full<R: Read>(input: &mut R, bytes: &mut [u8]) -> io::Result<usize>
+    ensures { IfOk result (λ n. n ≤ length bytes.new) }
+{
+    let mut done = 0;
+    for _ in 0..u64::MAX {
+        let n = input.read(&mut bytes[done..])?;
+        if n == 0 {
+            break;
+        }
+        done += n;
+    }
+    Ok(done)
+}
+
+fn main(rt: HostRuntime) -> io::Result<()> {
     let mut input = [0u8; asked::INPUT_BYTES];
-    io::read_full(0, &mut input);
+    read_full(&mut rt.stdin(), &mut input)?;
     let mut out = [0u8; OUTPUT_BYTES];
     let written = assembled(&input, &mut out);
-    io::write_all(1, &out[..written]);
+    rt.stdout().write_all(&out[..written])
 }

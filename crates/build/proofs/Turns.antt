@@ -71,6 +71,16 @@ module _ (st : HintState) (initial : HintMap) (m : HintMap) (rest : HintMask) (i
   abbrev so_far : Placed
   so_far = record { map = m; rest = rest }
 
+  -- in the first round a stem that is not active changes nothing
+  pub locked-skips : (given : Bool) → is_active rest i ≡ false → locked_turn st initial given so_far i x ≡ so_far
+  unfolding locked_turn
+  locked-skips given a = rw a
+
+  -- nor does it in the second
+  pub free-skips : is_active rest i ≡ false → free_turn st initial so_far i x ≡ so_far
+  unfolding free_turn
+  free-skips a = rw a
+
   -- in the first round an active stem that is neither locked nor captured changes nothing
   pub locked-leaves : (given : Bool) {c : Captured} → is_active rest i ≡ true → c ≡ prepared_of st x i →
       c.captured ≡ false → locked_turn st initial given so_far i x ≡ so_far

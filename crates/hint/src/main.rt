@@ -4,8 +4,11 @@
 
 mod encode;
 
-ghost use Rattle.std.specs.Prelude.{◌≤◌, length};
+ghost use Rattle.std.specs.Prelude.{◌≤◌, length, IfOk};
 ghost use Rattle.hint.specs.Encode.{Answered, program_words};
+
+use std::io;
+use std::io::{Read, Write};
 
 // The words that a script is run into; the bytes that are read at most, one more than a script can
 // have; and those of the longest answer: number, place and all of the words.
@@ -25,10 +28,25 @@ fn answer_to(script: &[u8], bytes: &mut [u8]) -> usize
     encode::answered(answer, &out, bytes)
 }
 
-fn main() {
+// Reads until the bytes are full or the input ends; how many bytes that is.
+fn read_full<R: Read>(input: &mut R, bytes: &mut [u8]) -> io::Result<usize>
+    ensures { IfOk result (λ n. n ≤ length bytes.new) }
+{
+    let mut done = 0;
+    for _ in 0..u64::MAX {
+        let n = input.read(&mut bytes[done..])?;
+        if n == 0 {
+            break;
+        }
+        done += n;
+    }
+    Ok(done)
+}
+
+fn main(rt: HostRuntime) -> io::Result<()> {
     let mut input = [0u8; INPUT_BYTES];
-    let read = io::read_full(0, &mut input);
+    let read = read_full(&mut rt.stdin(), &mut input)?;
     let mut bytes = [0u8; ANSWER_BYTES];
     let written = answer_to(&input[..read], &mut bytes);
-    io::write_all(1, &bytes[..written]);
+    rt.stdout().write_all(&bytes[..written])
 }

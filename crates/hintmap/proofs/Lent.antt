@@ -7,7 +7,7 @@ use native.Mathlib.Numerals.{add-one}
 use native.Mathlib.Omega.{arith}
 use lib.IntN.{ℤ}
 use lib.ListN.{length, get_or, set, take, drop, replicate, length-append, get_or-append, length-replicate}
-use lib.ListN.{length-take, replicate-append-replicate}
+use lib.ListN.{replicate-append-replicate}
 use lib.Seq.{take_at, drop_at, drop-append-add, length-take-le, get_or-take, take-set-lt, set-append_left}
 use lib.Seq.{set_at, take-suc}
 use Rattle.fixed.specs.declared.Fixed.{Fixed}

@@ -1,7 +1,6 @@
 -- Any two outcomes that meet the contract of a public function are equal, over that contract as the
 -- toolchain reads it: the result, and the map or the edges that lists hold. Assumes nothing.
 use mathlib.Core.Path.{◌≡◌, sym, ap, ◌∙◌}
-use mathlib.Core.Bool.{Bool}
 use mathlib.Core.List.{[]}
 use borrow.Fn.Kinds.{ended_of}
 use borrow.Fn.World.{ArgsD, ResD}

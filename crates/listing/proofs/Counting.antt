@@ -1,18 +1,20 @@
--- Laws of the records of a map: how many they are, one more of them, and how many of those are
--- counted. Assumes nothing.
-use mathlib.Core.Path.{◌≡◌, ap, ◌∙◌}
-use mathlib.Core.Bool.{Bool, cond}
+-- Laws of the records of a map: how many they are, one more of them, how many of those are
+-- counted, and their summary. Assumes nothing.
+use mathlib.Core.Path.{◌≡◌, refl, sym, ap, ◌∙◌}
+use mathlib.Core.Bool.{Bool, true, false, not, cond}
 use mathlib.Core.List.{List, [], ◌∷◌, ◌++◌}
 use Prim.Native.Nat.{ℕ, min, ◌+◌, ◌<◌}
 use native.Mathlib.Numerals.{add-one}
 use native.Mathlib.Omega.{arith}
 use lib.ListN.{length, take, length-map, length-take, get_or-map}
 use lib.Seq.{take-suc, get_or-take}
+use borrow.Author.Tests.{not-true, not-false}
 use Rattle.stems.specs.Edge.{no_hint}
 use Rattle.hintmap.specs.declared.map.HintMap.{HintMap}
 use Rattle.hintmap.specs.Map.{view}
 use Rattle.listing.specs.declared.record.EdgeRecord.{EdgeRecord}
-use Rattle.listing.specs.Records.{record_of, record_at, edge_records, count_of}
+use Rattle.listing.specs.declared.record.Counted.TheVariants.{Pairs, Ghosts, Locked}
+use Rattle.listing.specs.Records.{record_of, record_at, edge_records, records_of, counts, count_of, summary_of, no_summary}
 
 count-append : (f : EdgeRecord → Bool) (rs ss : List EdgeRecord) → count_of f (rs ++ ss) ≡ count_of f rs + count_of f ss
 unfolding count_of
@@ -40,3 +42,18 @@ module _ (m : HintMap) (long : length m.edges ≡ 96) where
   unfolding count_of
   count-more f i h =
       ap (count_of f) (records-more i h) ∙ count-append f (take i (edge_records m)) (record_at m i ∷ []) ∙ omega arith
+
+-- the summary of a map that is not valid, and of one that is
+module _ (m : HintMap) where
+  pub summary_none : not m.is_valid ≡ true → no_summary ≡ summary_of (records_of m)
+  unfolding records_of summary_of count_of
+  summary_none h = rw (not-true m.is_valid h) refl
+
+  pub summary_whole : not m.is_valid ≡ false → length m.edges ≡ 96 → {edges pairs ghosts locked : ℕ} →
+      edges ≡ min m.len 96 → pairs ≡ count_of (counts Pairs) (edge_records m) →
+      ghosts ≡ count_of (counts Ghosts) (edge_records m) → locked ≡ count_of (counts Locked) (edge_records m) →
+      record { edges = edges; pairs = pairs; ghosts = ghosts; locked = locked } ≡ summary_of (records_of m)
+  unfolding records_of summary_of
+  summary_whole v long e p g l =
+      let s = ap (λ (b : Bool). summary_of (cond b (edge_records m) [])) (not-false m.is_valid v) in
+      rw (e ∙ sym (records-length m long), p, g, l) (sym s)

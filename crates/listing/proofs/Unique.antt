@@ -1,11 +1,9 @@
 -- Any two outcomes that meet the contract of a public function are equal, over that contract as the
 -- toolchain reads it, and so is the list that they leave behind. Assumes nothing.
-use mathlib.Core.Path.{◌≡◌, refl, sym, ◌∙◌}
+use mathlib.Core.Path.{◌≡◌, sym, ◌∙◌}
 use Prim.Native.Nat.{ℕ}
 use borrow.Fn.Kinds.{ended_of}
-use borrow.Fn.World.{World, Pr, ArgsD, ResD, In}
-use borrow.Fn.Read.{Read, reads, no_know, all_models}
-use borrow.Fn.Claims.{AllOf}
+use borrow.Fn.World.{ArgsD, ResD}
 use contract.Lifetimes.{Lfts}
 use denote.Triple.Clauses.{AtExit}
 use Rattle.stems.specs.declared.edge.Hint.{Hint}
@@ -20,6 +18,8 @@ use Rattle.listing.proofs.answer.ListAnswer.code.Reads as code_Reads
 use Rattle.listing.proofs.answer.ListAnswer.summary.Reads as summary-reads
 use Rattle.listing.specs.contracts.list.list_edges as list-edges
 use Rattle.listing.specs.contracts.as_words.list_words as list-words
+use Rattle.listing.proofs.list.list_edges.Kinds as list-edges-kinds
+use Rattle.listing.proofs.list.list_edges.Reads as list-edges-reads
 use Rattle.listing.proofs.as_words.list_words.Kinds as list-words-kinds
 use Rattle.listing.proofs.as_words.list_words.Reads as list-words-reads
 
@@ -49,19 +49,8 @@ module _ (κs : Lfts 1) (a : ArgsD list-words.signature κs) (r r' : ResD list-w
       (r ≡ r') × (x.1.0.now ≡ x'.1.0.now)
   list-words-unique p q = (p.answer ∙ sym q.answer, p.memory ∙ sym q.memory)
 
--- `list_edges` is walked by hand, so the toolchain's reading of its contract is asked for here
-module _ (κs : Lfts 1) (a : ArgsD list-edges.signature κs) (r : ResD list-edges.signature κs)
-    (x : AtExit list-edges.ended κs) where
-  abbrev promise : (w : World) → Pr w
-  promise w = (list-edges.clauses w.𝓛 w.𝓜.mem w.𝓡.run κs a).ensures tt r x
-
-  abbrev promise-read : Read (In list-edges.signature κs a) no_know promise
-  promise-read = all_models promise (λ w. search reads) (λ w. refl) (λ w. refl) (λ w. refl)
-
-  abbrev pub Post : Type 0
-  Post = AllOf promise-read.owes
-
 module _ (κs : Lfts 1) (a : ArgsD list-edges.signature κs) (r r' : ResD list-edges.signature κs)
-    (x x' : AtExit list-edges.ended κs) where
-  pub list-edges-unique : Post κs a r x → Post κs a r' x' → (r ≡ r') × (x.1.0.now ≡ x'.1.0.now)
+    (x x' : AtExit (ended_of 1 list-edges-kinds.ps list-edges-kinds.r) κs) where
+  pub list-edges-unique : list-edges-reads.Post κs a r x → list-edges-reads.Post κs a r' x' →
+      (r ≡ r') × (x.1.0.now ≡ x'.1.0.now)
   list-edges-unique p q = (p.answer ∙ sym q.answer, p.memory ∙ sym q.memory)

@@ -45,6 +45,7 @@ fn count(map: HintMap, what: Counted) -> usize
 }
 
 // The summary of a map's records, of which an invalid one has none.
+#[tactic(auto, using(crate::proofs::Counting::summary_none))]
 pub fn summarize(map: HintMap) -> Summary
     ensures { result ≡ summary_of (records_of map) }
 {

@@ -1,19 +1,17 @@
 -- Maps that a run's lists keep after a build, and the stems after it. Assumes nothing.
-use mathlib.Core.Path.{◌≡◌, refl, sym, ap, subst, ◌∙◌}
+use mathlib.Core.Path.{◌≡◌, sym, ap, subst, ◌∙◌}
 use mathlib.Core.Bool.{Bool, true, false}
 use mathlib.Core.List.{List, append-nil}
 use Prim.Native.Nat.{ℕ}
 use lib.IntN.{ℤ}
 use lib.ListN.{length}
-use Rattle.fixed.specs.declared.Fixed.{Fixed}
 use Rattle.stems.specs.declared.mask.HintMask.{HintMask}
 use Rattle.stems.specs.declared.edge.Stems.{Stems}
 use Rattle.stems.specs.Mask.{of_bytes, mask_of}
 use Rattle.stems.specs.Lists.{stems_in}
 use Rattle.zones.specs.declared.state.HintState.{HintState}
-use Rattle.hintmap.specs.declared.map.HintMap.{HintMap}
 use Rattle.hintmap.specs.Map.{valid_map, view}
-use Rattle.hintmap.specs.Lent.{map_in, LinesOf}
+use Rattle.hintmap.specs.Lent.{map_in}
 use Rattle.hintmap.proofs.Lent.{view-map}
 use Rattle.build.specs.declared.map.Built.{Built}
 use Rattle.build.specs.Build.{initial_of, built_of}
@@ -21,7 +19,7 @@ use Rattle.build.specs.Made.{SameDeclared, MadeInitial, MadeMap}
 use Rattle.build.proofs.Declared.{initial-alike, map-alike, stems-alike}
 use Rattle.build.proofs.Sound.{initial-valid, built-valid, initial-scale, built-scale}
 use Rattle.hints.specs.declared.hints.Hints.{Hints}
-use Rattle.hints.specs.Hints.{initial_by, with_initial, built_from, built_in, countered, ready_by, ready_of}
+use Rattle.hints.specs.Hints.{initial_by, with_initial, built_from, countered, ready_by, ready_of}
 use Rattle.run.specs.declared.kept.Sizes.{Sizes}
 use Rattle.run.specs.Kept.{KeptMap, Kept}
 

@@ -16,8 +16,7 @@ use fixed::Fixed;
 // pointer.
 #[unsafe(no_mangle)]
 pub extern "C" fn spoonglacier_run(script: &[u8], out: &mut [i32], place: &mut usize) -> u32
-    ensures { Returned (script_of script.now out.old) result out.new
-        place.new }
+    ensures { Returned (script_of script.now out.old) result out.new place.new }
 {
     let answer = script::run_script(script, out);
     *place = answer.place();
@@ -37,9 +36,8 @@ pub extern "C" fn spoonglacier_write(
     place: &mut usize,
 ) -> u32
     ensures { WriteReturned
-        (write_of
-        (given (from_bits scale) (params_in params.now) commands.now masks.now)
-        script.old) result script.new written.new place.new }
+        (write_of (given (from_bits scale) (params_in params.now) commands.now masks.now) script.old)
+        result script.new written.new place.new }
 {
     let scale = Fixed { bits: scale };
     let wrote = writer::write_script(scale, writer::params_from(params), commands, masks, script);
@@ -62,8 +60,8 @@ pub extern "C" fn spoonglacier_edges(
     locked: &mut usize,
     place: &mut usize,
 ) -> u32
-    ensures { EdgesReturned (seen_of script.now commands list.old) result list.new
-        edges.new pairs.new ghosts.new locked.new place.new }
+    ensures { EdgesReturned (seen_of script.now commands list.old)
+        result list.new edges.new pairs.new ghosts.new locked.new place.new }
 {
     let seen = overlay::see_edges(script, commands, list);
     let summary = seen.summary();
@@ -90,10 +88,8 @@ pub extern "C" fn spoonglacier_labels(
     place: &mut usize,
 ) -> u32
     ensures { LabelsReturned
-        (labels_of
-        (label (from_bits scale) (params_in params.now) commands.now masks.now
-        lengths.now)
-        out.old) result out.new written.new glyph.new place.new }
+        (labels_of (label (from_bits scale) (params_in params.now) commands.now masks.now lengths.now) out.old)
+        result out.new written.new glyph.new place.new }
 {
     let scale = Fixed { bits: scale };
     let labelled = labels::run_labels(

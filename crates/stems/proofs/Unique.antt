@@ -68,6 +68,9 @@ use Rattle.stems.proofs.lists.stem_at.Reads as stem-at-reads
 use Rattle.stems.specs.contracts.lists.put_stem as put-stem
 use Rattle.stems.proofs.lists.put_stem.Kinds as put-stem-kinds
 use Rattle.stems.proofs.lists.put_stem.Reads as put-stem-reads
+use Rattle.stems.specs.contracts.mask.is_active as is-active
+use Rattle.stems.proofs.mask.is_active.Kinds as is-active-kinds
+use Rattle.stems.proofs.mask.is_active.Reads as is-active-reads
 use Rattle.stems.specs.contracts.mask.clear_active as clear-active
 use Rattle.stems.proofs.mask.clear_active.Kinds as clear-active-kinds
 use Rattle.stems.proofs.mask.clear_active.Reads as clear-active-reads
@@ -179,6 +182,12 @@ module _ (κs : Lfts 1) (a : ArgsD from_list.signature κs) (r r' : ResD from_li
   pub from-list-unique : from-list-reads.Post κs a r x → from-list-reads.Post κs a r' x' →
       r ≡ r'
   from-list-unique p q = p ∙ sym q
+
+module _ (κs : Lfts 1) (a : ArgsD is-active.signature κs) (r r' : ResD is-active.signature κs)
+    (x x' : AtExit (ended_of 1 is-active-kinds.ps is-active-kinds.r) κs) where
+  pub is-active-unique : is-active-reads.Post κs a r x → is-active-reads.Post κs a r' x' →
+      r ≡ r'
+  is-active-unique p q = p ∙ sym q
 
 -- ---- what lists are left as
 module _ (κs : Lfts 1) (a : ArgsD put-line.signature κs) (r r' : ResD put-line.signature κs)

@@ -10,4 +10,4 @@ pub use lists::{
     LINES, STEM_NUMBERS, TAGS, copy_edge, device_at, edge_at, height_at, mark_if, put_edge,
     put_line, put_stem, scale_at, stem_at,
 };
-pub use mask::{HINT_MASK_SIZE, HintMask, clear_active, take_first};
+pub use mask::{HINT_MASK_SIZE, HintMask, clear_active, is_active, take_first};

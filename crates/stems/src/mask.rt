@@ -21,7 +21,7 @@ fn msb_mask(bit: usize) -> u8
 }
 
 // Whether a stem is active in a mask's bytes.
-fn is_active(bytes: &[u8; HINT_MASK_SIZE], bit: usize) -> bool
+pub fn is_active(bytes: &[u8; HINT_MASK_SIZE], bit: usize) -> bool
     requires { bit < max_hints }
     ensures { result ≡ is_active (of_bytes bytes.now) bit }
 {

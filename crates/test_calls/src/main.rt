@@ -10,16 +10,19 @@ mod lent;
 mod openings;
 mod tables;
 
-fn main() {
-    tables::run(b"worked by hand");
-    tables::run(b"openings");
-    tables::run(b"paths of three calls");
-    tables::run(b"rooms");
-    tables::run(b"stems");
-    tables::run(b"masks");
-    tables::run(b"counter masks");
-    tables::run(b"clears");
-    tables::run(b"refusals");
-    tables::run(b"all calls");
-    tables::run(b"ends of the range");
+use std::io;
+
+fn main(rt: HostRuntime) -> io::Result<()> {
+    let mut input = rt.stdin();
+    tables::run(&rt, &mut input, b"worked by hand")?;
+    tables::run(&rt, &mut input, b"openings")?;
+    tables::run(&rt, &mut input, b"paths of three calls")?;
+    tables::run(&rt, &mut input, b"rooms")?;
+    tables::run(&rt, &mut input, b"stems")?;
+    tables::run(&rt, &mut input, b"masks")?;
+    tables::run(&rt, &mut input, b"counter masks")?;
+    tables::run(&rt, &mut input, b"clears")?;
+    tables::run(&rt, &mut input, b"refusals")?;
+    tables::run(&rt, &mut input, b"all calls")?;
+    tables::run(&rt, &mut input, b"ends of the range")
 }

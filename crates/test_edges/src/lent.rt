@@ -1,5 +1,5 @@
-// A list of records that is lent here: the one function that lends such a list, walked by hand, so
-// that all above it goes by value.
+// A list of records that is lent here: the one function that lends such a list, so that all above it
+// goes by value.
 ghost use Rattle.std.specs.Prelude.{replicate};
 ghost use Rattle.listing.specs.Listing.{Lists};
 

@@ -4,11 +4,13 @@ ghost use Rattle.std.specs.Prelude.{◌≤◌};
 use crate::tables;
 use crate::tables::Rows;
 use fixed::Fixed;
+use std::io;
+use std::io::Read;
 use stems::{Hint, Side, StemHint};
 use zones::HintState;
 
-pub(crate) fn run() {
-    tables::run(b"captures", Rows::Captures);
+pub(crate) fn run<R: Read>(rt: &impl Print, input: &mut R) -> io::Result<()> {
+    tables::run(rt, input, b"captures", Rows::Captures)
 }
 
 // A row: a scale and parameters, a count of stems, and to the end seven numbers for each.

@@ -3,10 +3,12 @@ ghost use Rattle.std.specs.Prelude.{◌≤◌};
 
 use crate::tables;
 use crate::tables::Rows;
+use std::io;
+use std::io::Read;
 use stems::{Hint, Side, StemHint};
 
-pub(crate) fn run() {
-    tables::run(b"edges", Rows::Edges);
+pub(crate) fn run<R: Read>(rt: &impl Print, input: &mut R) -> io::Result<()> {
+    tables::run(rt, input, b"edges", Rows::Edges)
 }
 
 // A row: a stem, its number and a scale; of the bottom edge and of the top edge the kind, 1 if it

@@ -11,10 +11,13 @@ mod operations;
 mod states;
 mod tables;
 
-fn main() {
-    operations::run();
-    masks::run();
-    edges::run();
-    states::run();
-    captures::run();
+use std::io;
+
+fn main(rt: HostRuntime) -> io::Result<()> {
+    let mut input = rt.stdin();
+    operations::run(&rt, &mut input)?;
+    masks::run(&rt, &mut input)?;
+    edges::run(&rt, &mut input)?;
+    states::run(&rt, &mut input)?;
+    captures::run(&rt, &mut input)
 }

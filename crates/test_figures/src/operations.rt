@@ -3,6 +3,8 @@
 use crate::tables;
 use crate::tables::Rows;
 use fixed::Fixed;
+use std::io;
+use std::io::Read;
 
 // What a table runs: a method of `Fixed`, or the constants.
 #[derive(Clone, Copy)]
@@ -29,46 +31,51 @@ pub(crate) enum Operation {
 }
 
 // Every table, in four groups.
-pub(crate) fn run() {
-    products_and_quotients();
-    sums_and_differences();
-    operations_on_one();
-    order_and_constants();
+pub(crate) fn run<R: Read>(rt: &impl Print, input: &mut R) -> io::Result<()> {
+    products_and_quotients(rt, input)?;
+    sums_and_differences(rt, input)?;
+    operations_on_one(rt, input)?;
+    order_and_constants(rt, input)
 }
 
-fn products_and_quotients() {
-    table(b"products", Operation::Mul);
-    table(b"quotients", Operation::Div);
-    table(b"a*b/c", Operation::MulDiv);
+fn products_and_quotients<R: Read>(rt: &impl Print, input: &mut R) -> io::Result<()> {
+    table(rt, input, b"products", Operation::Mul)?;
+    table(rt, input, b"quotients", Operation::Div)?;
+    table(rt, input, b"a*b/c", Operation::MulDiv)
 }
 
-fn sums_and_differences() {
-    table(b"sums", Operation::Add);
-    table(b"differences", Operation::Sub);
-    table(b"midpoints", Operation::Midpoint);
+fn sums_and_differences<R: Read>(rt: &impl Print, input: &mut R) -> io::Result<()> {
+    table(rt, input, b"sums", Operation::Add)?;
+    table(rt, input, b"differences", Operation::Sub)?;
+    table(rt, input, b"midpoints", Operation::Midpoint)
 }
 
-fn operations_on_one() {
-    table(b"negations", Operation::Neg);
-    table(b"absolute values", Operation::Abs);
-    table(b"doublings", Operation::Twice);
-    table(b"rounds", Operation::Round);
-    table(b"fractions", Operation::Fract);
-    table(b"halves", Operation::Half);
-    table(b"outputs", Operation::Trunc);
+fn operations_on_one<R: Read>(rt: &impl Print, input: &mut R) -> io::Result<()> {
+    table(rt, input, b"negations", Operation::Neg)?;
+    table(rt, input, b"absolute values", Operation::Abs)?;
+    table(rt, input, b"doublings", Operation::Twice)?;
+    table(rt, input, b"rounds", Operation::Round)?;
+    table(rt, input, b"fractions", Operation::Fract)?;
+    table(rt, input, b"halves", Operation::Half)?;
+    table(rt, input, b"outputs", Operation::Trunc)
 }
 
-fn order_and_constants() {
-    table(b"less", Operation::Less);
-    table(b"at most", Operation::AtMost);
-    table(b"same", Operation::Same);
-    table(b"minima", Operation::Min);
-    table(b"maxima", Operation::Max);
-    table(b"constants", Operation::Constant);
+fn order_and_constants<R: Read>(rt: &impl Print, input: &mut R) -> io::Result<()> {
+    table(rt, input, b"less", Operation::Less)?;
+    table(rt, input, b"at most", Operation::AtMost)?;
+    table(rt, input, b"same", Operation::Same)?;
+    table(rt, input, b"minima", Operation::Min)?;
+    table(rt, input, b"maxima", Operation::Max)?;
+    table(rt, input, b"constants", Operation::Constant)
 }
 
-fn table(name: &[u8], operation: Operation) {
-    tables::run(name, Rows::Numbers(operation));
+fn table<R: Read>(
+    rt: &impl Print,
+    input: &mut R,
+    name: &[u8],
+    operation: Operation,
+) -> io::Result<()> {
+    tables::run(rt, input, name, Rows::Numbers(operation))
 }
 
 // A row: three operands, with 0 for one that is not taken, and the expected bits.

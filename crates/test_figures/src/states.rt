@@ -3,12 +3,14 @@ ghost use Rattle.std.specs.Prelude.{◌≤◌};
 
 use crate::tables;
 use crate::tables::Rows;
+use std::io;
+use std::io::Read;
 use zones::{BlueZone, HintState};
 
-pub(crate) fn run() {
-    tables::run(b"zone lists", Rows::States);
-    tables::run(b"zones by family", Rows::States);
-    tables::run(b"zones by scale", Rows::States);
+pub(crate) fn run<R: Read>(rt: &impl Print, input: &mut R) -> io::Result<()> {
+    tables::run(rt, input, b"zone lists", Rows::States)?;
+    tables::run(rt, input, b"zones by family", Rows::States)?;
+    tables::run(rt, input, b"zones by scale", Rows::States)
 }
 
 // A row: a scale and parameters; 1 for em-box hints, 1 for suppression, boost, blue scale, and the

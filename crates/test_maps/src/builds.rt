@@ -6,16 +6,18 @@ use crate::{edges, maps, tables};
 use build::{Built, build_initial, build_map};
 use fixed::Fixed;
 use hintmap::HintMap;
+use std::io;
+use std::io::Read;
 use stems::{HintMask, StemHint, Stems};
 use zones::HintState;
 
-pub(crate) fn run() {
-    tables::run(b"stem 16 to 80 at scale 2048", Rows::Builds);
-    tables::run(b"stems and zones", Rows::Builds);
-    tables::run(b"em boxes", Rows::Builds);
-    tables::run(b"baselines", Rows::Builds);
-    tables::run(b"crowded stems", Rows::Builds);
-    tables::run(b"narrow counters", Rows::Builds);
+pub(crate) fn run<R: Read>(rt: &impl Print, input: &mut R) -> io::Result<()> {
+    tables::run(rt, input, b"stem 16 to 80 at scale 2048", Rows::Builds)?;
+    tables::run(rt, input, b"stems and zones", Rows::Builds)?;
+    tables::run(rt, input, b"em boxes", Rows::Builds)?;
+    tables::run(rt, input, b"baselines", Rows::Builds)?;
+    tables::run(rt, input, b"crowded stems", Rows::Builds)?;
+    tables::run(rt, input, b"narrow counters", Rows::Builds)
 }
 
 // A row: a scale and parameters, stems, the initial map's edges, and what two masks make of them.

@@ -9,8 +9,11 @@ mod maps;
 mod room;
 mod tables;
 
-fn main() {
-    room::run();
-    maps::run();
-    builds::run();
+use std::io;
+
+fn main(rt: HostRuntime) -> io::Result<()> {
+    let mut input = rt.stdin();
+    room::run(&rt)?;
+    maps::run(&rt, &mut input)?;
+    builds::run(&rt, &mut input)
 }

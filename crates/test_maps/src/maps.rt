@@ -8,10 +8,12 @@ use crate::tables::Rows;
 use crate::{edges, tables};
 use fixed::Fixed;
 use hintmap::{Edges, HintMap, insert_edges};
+use std::io;
+use std::io::Read;
 use stems::{Hint, LINES, Side, StemHint, TAGS};
 
-pub(crate) fn run() {
-    tables::run(b"maps edge by edge", Rows::Maps);
+pub(crate) fn run<R: Read>(rt: &impl Print, input: &mut R) -> io::Result<()> {
+    tables::run(rt, input, b"maps edge by edge", Rows::Maps)
 }
 
 // A row: a scale, 1 if the initial map is given, the stems of that map and those of the map; the

@@ -7,16 +7,17 @@ ghost use Rattle.hintmap.specs.Lent.{Lent};
 use crate::maps;
 use fixed::Fixed;
 use hintmap::insert_edges;
+use std::io;
 use stems::{LINES, StemHint, TAGS};
 
-pub(crate) fn run() {
+pub(crate) fn run(rt: &impl Print) -> io::Result<()> {
     let height = Fixed { bits: 200 * 65536 };
     let single = ghost_at(height);
     let pair = maps::stem(height, height.add(Fixed::ONE));
     let few = differs(94, pair, 96) + differs(94, single, 95);
     let one_left = differs(95, pair, 95) + differs(95, single, 96);
     let full = differs(96, pair, 96) + differs(96, single, 96);
-    test_tables::counts(b"room for edges", 6, few + one_left + full);
+    test_tables::counts(rt, b"room for edges", 6, few + one_left + full)
 }
 
 // 1 if a map of so many edges has another number of them than expected once the stem comes, or else

@@ -1,5 +1,7 @@
 // Tables of rows.
 use crate::{builds, maps};
+use std::io;
+use std::io::Read;
 
 // What the rows of a table are about.
 #[derive(Clone, Copy)]
@@ -9,26 +11,31 @@ pub(crate) enum Rows {
 }
 
 // Runs a table, the next of the input.
-pub(crate) fn run(name: &[u8], about: Rows) {
-    let count = test_tables::next_count();
+pub(crate) fn run<R: Read>(
+    rt: &impl Print,
+    input: &mut R,
+    name: &[u8],
+    about: Rows,
+) -> io::Result<()> {
+    let count = test_tables::next_count(input)?;
     let mut differ = 0;
     for i in 0..count {
-        if !next_agrees(about) {
-            test_tables::row_differs(name, i);
+        if !next_agrees(input, about)? {
+            test_tables::row_differs(rt, name, i)?;
             differ += 1;
         }
     }
-    test_tables::counts(name, count, differ);
+    test_tables::counts(rt, name, count, differ)
 }
 
 // The input's next row is there, is not too long, and agrees.
-fn next_agrees(about: Rows) -> bool {
+fn next_agrees<R: Read>(input: &mut R, about: Rows) -> io::Result<bool> {
     let mut row = [0i32; 512];
-    let count = test_tables::next_row(&mut row);
+    let count = test_tables::next_row(input, &mut row)?;
     if count == 0 {
-        return false;
+        return Ok(false);
     }
-    agrees(about, &row[0..count])
+    Ok(agrees(about, &row[0..count]))
 }
 
 fn agrees(about: Rows, row: &[i32]) -> bool {

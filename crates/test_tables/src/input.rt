@@ -1,41 +1,60 @@
 // The input of a program: tables one behind the other, each with the count of its rows in front. A
 // row starts with the count of its numbers. All are words of four bytes, the least byte first. Past
 // the input's end there are only zeros.
-ghost use Rattle.std.specs.Prelude.{◌≤◌, length};
+ghost use Rattle.std.specs.Prelude.{◌≤◌, length, IfOk};
 
-use io::read_full;
-use libc::STDIN_FILENO;
+use std::io;
+use std::io::Read;
 use words::{natural, word};
 
-// The next word as a count.
-pub fn next_count() -> usize {
-    let mut bytes = [0u8; 4];
-    read_full(STDIN_FILENO, &mut bytes);
-    natural(&bytes, 0)
+// Reads until the buffer is full or the input ends, and answers how many bytes it put at the
+// buffer's start. A read may give fewer than there are before the end.
+pub fn read_full<R: Read>(input: &mut R, buf: &mut [u8]) -> io::Result<usize>
+    ensures { IfOk result (λ n. n ≤ length buf.new) }
+{
+    let mut done = 0;
+    for _ in 0..u64::MAX {
+        if buf.len() <= done {
+            break;
+        }
+        let read = input.read(&mut buf[done..])?;
+        if read == 0 {
+            break;
+        }
+        done += read;
+    }
+    Ok(done)
 }
 
-fn next_number() -> i32 {
+// The next word as a count.
+pub fn next_count<R: Read>(input: &mut R) -> io::Result<usize> {
     let mut bytes = [0u8; 4];
-    read_full(STDIN_FILENO, &mut bytes);
-    word(&bytes, 0)
+    read_full(input, &mut bytes)?;
+    Ok(natural(&bytes, 0))
+}
+
+fn next_number<R: Read>(input: &mut R) -> io::Result<i32> {
+    let mut bytes = [0u8; 4];
+    read_full(input, &mut bytes)?;
+    Ok(word(&bytes, 0))
 }
 
 // Reads the next row, and answers how many places it takes: one for the count, and one for each
 // number. It takes none if it has no numbers, as past the input's end, or more than there is place
 // for.
-pub fn next_row(row: &mut [i32]) -> usize
-    ensures { result ≤ length row.new }
+pub fn next_row<R: Read>(input: &mut R, row: &mut [i32]) -> io::Result<usize>
+    ensures { IfOk result (λ n. n ≤ length row.new) }
 {
-    let count = next_count();
+    let count = next_count(input)?;
     if count == 0 {
-        return 0;
+        return Ok(0);
     }
     if row.len() <= count {
-        return 0;
+        return Ok(0);
     }
     let end = count + 1;
     for i in 1..end {
-        row[i] = next_number();
+        row[i] = next_number(input)?;
     }
-    end
+    Ok(end)
 }

@@ -4,6 +4,7 @@ ghost use Rattle.test_tables.specs.Verdicts.{verdict_on};
 
 use crate::cases::{case_differs, case_differs_at};
 use crate::differing::first_word;
+use std::io;
 use std::num::wrapping_add_usize;
 
 // So many differences of a table are said.
@@ -46,24 +47,24 @@ impl Tally {
     }
 
     // One case more, the case `i` of its table; says where it differs, if it does.
-    pub fn with(self, i: usize, verdict: Verdict) -> Tally {
+    pub fn with(self, rt: &impl Print, i: usize, verdict: Verdict) -> io::Result<Tally> {
         let mut tally = self;
         if tally.differ < MOST_SAID {
-            difference(i, verdict);
+            difference(rt, i, verdict)?;
         }
         tally.run = wrapping_add_usize(tally.run, 1);
         let Verdict::Same = verdict else {
             tally.differ = wrapping_add_usize(tally.differ, 1);
-            return tally;
+            return Ok(tally);
         };
-        tally
+        Ok(tally)
     }
 }
 
-fn difference(i: usize, verdict: Verdict) {
+fn difference(rt: &impl Print, i: usize, verdict: Verdict) -> io::Result<()> {
     match verdict {
-        Verdict::Same => {}
-        Verdict::Answer => case_differs(i, b"the answer"),
-        Verdict::Word(at) => case_differs_at(i, b"word ", at),
+        Verdict::Same => Ok(()),
+        Verdict::Answer => case_differs(rt, i, b"the answer"),
+        Verdict::Word(at) => case_differs_at(rt, i, b"word ", at),
     }
 }

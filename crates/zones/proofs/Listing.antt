@@ -3,8 +3,8 @@ use mathlib.Core.Path.{◌≡◌, sym, ap, ◌∙◌}
 use mathlib.Core.List.{List}
 use Prim.Native.Nat.{ℕ, ◌+◌, ◌<◌}
 use native.Mathlib.Omega.{arith}
-use lib.IntN.{ℤ, pos}
-use lib.ListN.{length, get_or, set, length-set}
+use lib.IntN.{ℤ}
+use lib.ListN.{length, get_or, length-set}
 use lib.Seq.{ext_get_or}
 use Rattle.stems.specs.Lists.{mark_if}
 use Rattle.stems.proofs.Places.{length-tabulate, get_d_tabulate, five-other, five-0, five-1, five-2, five-3, five-4}

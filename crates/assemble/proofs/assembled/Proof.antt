@@ -15,7 +15,7 @@ module _ (c : tie.After-written) where
   abbrev stored : tie.After-store
   stored = c.before.before.before.before.before.before.before.before
 
-  abbrev found : tie.After-answer-to
+  abbrev found : tie.After-answer_to-answer
   found = stored.before.before.before.before.before
 
   abbrev begin : tie.Start
@@ -28,21 +28,21 @@ module _ (c : tie.After-written) where
   out = begin.args.out.now
 
   room : 65544 ≤ length out
-  room = begin.pre.1
+  room = begin.requires.1
 
-  answered : Wrote (answer_in input (take 65536 (drop 8 out))) found.answer-to.result found.answer-to.last.1.0
-  answered = found.answer-to.ensures
+  answered : Wrote (answer_in input (take 65536 (drop 8 out))) found.answer_to-answer.result found.answer_to-answer.new.script
+  answered = found.answer_to-answer.ensures
 
-sub-answer-to : tie.Need-overflow-sub-answer-to
+sub-answer-to : tie.Need-slice_bounds-answer_to-count
 sub-answer-to c = search rules
 
-part-answer-to-start : tie.Need-slice-bounds-answer-to-start
+part-answer-to-start : tie.Need-slice_bounds-answer_to-start
 part-answer-to-start c = search rules
 
-part-answer-to-end : tie.Need-slice-bounds-answer-to-end
+part-answer-to-end : tie.Need-slice_bounds-answer_to-end
 part-answer-to-end c = search rules
 
-answer-to-requires : tie.Need-answer-to-requires
+answer-to-requires : tie.Need-answer_to-answer-requires
 answer-to-requires c κs = search rules
 
 code-requires : tie.Need-code-requires
@@ -54,7 +54,7 @@ store-requires c κs = search rules
 place-requires : tie.Need-place-requires
 place-requires c κs = search rules
 
-cast-store : tie.Need-overflow-cast-store
+cast-store : tie.Need-overflow_cast-place
 cast-store c = search rules
 
 store-requires-2 : tie.Need-store-requires-2
@@ -63,10 +63,10 @@ store-requires-2 c κs = search rules
 written-requires : tie.Need-written-requires
 written-requires c κs = search rules
 
-add-result : tie.Need-overflow-add-result
+add-result : tie.Need-overflow_add-result
 add-result c = omega (arith, c.written.ensures, few-written (input c) (out c) (room c) (answered c))
 
-same_length : tie.Need-same-length
+same_length : tie.Need-shape_of-out
 same_length c = search rules
 
 returns : tie.Need-returns
@@ -76,12 +76,12 @@ returns c =
     record {
       number = omega (arith, c.written.ensures, count (input c) (out c) (room c) (answered c));
       memory =
-          put (input c) (out c) (room c) (answered c) s.before.code.ensures t.before.place.ensures
-          s.store.ensures t.store2.ensures;
+          put (input c) (out c) (room c) (answered c) s.code.ensures t.place.ensures
+          s.store.ensures t.store-2.ensures;
     }
 
-pub assembled-spec : {M : Type 1} → statement M
-assembled-spec =
+pub assembled_spec : {M : Type 1} → statement M
+assembled_spec =
     tie.close
     (tie.spec
     sub-answer-to

@@ -35,21 +35,16 @@ at t = and 1 ps (is 1 ps μ t) digits.Pre
 abbrev calls : ℕ → lts.Claims
 calls t = (byte.Asked, byte.Learnt, and 1 ps (falls 1 ps ◌<◌ μ t) digits.Pre, digits.Post)
 
-returns : (t : ℕ) → lts.Need-returns (calls t) (at t) digits.Post
+returns : (t : ℕ) → lts.Need-returns-then-n-lt10 (calls t) (at t) digits.Post
 unfolding digits_by
-returns t c =
-    let p = c.before.before in
-    rw (lt-ltb _ 10 p.before.before.if1.true) p.put_byte.ensures
+returns t c = rw (lt-ltb _ 10 c.if-n-lt10.true) c.put_byte.ensures
 
-returns-2 : (t : ℕ) → lts.Need-returns-2 (calls t) (at t) digits.Post
+returns-2 : (t : ℕ) → lts.Need-returns (calls t) (at t) digits.Post
 returns-2 t c =
-    let q = c.before.before in
-    let p = q.before.before.before.before in
-    let e = p.before.before in
-    rw (more _ e.before.before.ranges.n.fits e.if1.false)
-    (in-room-both p.put-digits.ensures q.put-byte2.ensures)
+    rw (more _ c.ranges.n.fits c.if-n-lt10.false)
+    (in-room-both c.put_digits-next.ensures c.put_byte-2.ensures)
 
-pub +put-digits-spec : {M : Type 1} → statement M
-+put-digits-spec = close μ λ t.
+pub +put_digits_spec : {M : Type 1} → statement M
++put_digits_spec = close μ λ t.
     lts.spec (calls t) (at t) digits.Post (λ c. search rules) (λ c. search rules) (λ c κs. search rules)
     (λ c. search rules) (returns t) (λ c κs. search rules) (λ c κs. search rules) (λ c. search rules) (returns-2 t)

@@ -27,23 +27,20 @@ at t = and 1 ps (is 1 ps μ t) fraction.Pre
 abbrev calls : ℕ → lts.Claims
 calls t = (byte.Asked, byte.Learnt, and 1 ps (falls 1 ps ◌<◌ μ t) fraction.Pre, fraction.Post)
 
-returns : (t : ℕ) → lts.Need-returns (calls t) (at t) fraction.Post
+returns : (t : ℕ) → lts.Need-returns-then-left-eq0 (calls t) (at t) fraction.Post
 unfolding fraction_by
-returns t c = rw c.if1.true (λ h. put-none _ _)
+returns t c = rw c.if-left-eq0.true (λ h. put-none _ _)
 
-returns-2 : (t : ℕ) → lts.Need-returns-2 (calls t) (at t) fraction.Post
-returns-2 t c = rw (split _ _ c.before.if1.false, eq-eqb _ 0 c.if2.true) (λ h. put-none _ _)
+returns-2 : (t : ℕ) → lts.Need-returns-then-n-eq0 (calls t) (at t) fraction.Post
+returns-2 t c = rw (split _ _ c.if-left-eq0.false, eq-eqb _ 0 c.if-n-eq0.true) (λ h. put-none _ _)
 
-returns-3 : (t : ℕ) → lts.Need-returns-3 (calls t) (at t) fraction.Post
+returns-3 : (t : ℕ) → lts.Need-returns (calls t) (at t) fraction.Post
 returns-3 t c =
-    let q = c.before.before in
-    let p = q.before.before.before.before in
-    let e = p.before.before in
-    rw (split _ _ e.before.if1.false, ne_eqb _ 0 e.if2.false)
-    (in-room-both p.put_byte.ensures q.put-fraction.ensures)
+    rw (split _ _ c.if-left-eq0.false, ne_eqb _ 0 c.if-n-eq0.false)
+    (in-room-both c.put_byte-next.ensures c.put_fraction.ensures)
 
-pub +put-fraction-spec : {M : Type 1} → statement M
-+put-fraction-spec = close μ λ t.
+pub +put_fraction_spec : {M : Type 1} → statement M
++put_fraction_spec = close μ λ t.
     lts.spec (calls t) (at t) fraction.Post (returns t) (returns-2 t) (λ c. search rules) (λ c. search rules)
     (λ c. search rules) (λ c κs. search rules) (λ c. search rules) (λ c κs. search rules) (λ c. search rules)
     (returns-3 t)

@@ -3,7 +3,7 @@
 use Rattle.std.proofs.Common.{◌≡◌, ℤ, pos, refl, ap, ◌∙◌, arith, w32, w64, SFits, to_z, of_z, rules}
 use lib.Bits.{bit_and}
 use mir.Facts.{to_z_pos}
-use Rattle.fixed.specs.Integers.{low_bits, signed, wrap32}
+use Rattle.fixed.specs.Integers.{low_bits, wrap32}
 use Rattle.fixed.proofs.Bits.{masked, low-lt, read}
 use Rattle.fixed.proofs.wrap.Statement.{statement}
 use Rattle.fixed.proofs.wrap.Tie as tie

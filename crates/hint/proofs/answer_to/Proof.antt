@@ -16,16 +16,16 @@ returns : tie.Need-returns
 returns c =
     let a = c.before.before in
     let r = a.before.before.before.before in
-    let g = r.before.before.before.before.args in
+    let g = r.args in
     let s = g.script.now in
-    let o = r.run-script.ensures in
-    let w = ap (λ (x : Answer). answer_words x (result_in r.run-script.new.1.0)) (says_is o.answer) ∙
+    let o = r.run_script-answer.ensures in
+    let w = ap (λ (x : Answer). answer_words x (result_in r.run_script-answer.new.out)) (says_is o.answer) ∙
     ap (λ (l : List ℤ). answer_words (script_of s lent).answer (result_in l)) o.memory ∙ program-words s in
-    subst (λ (ws : List ℕ). Answered ws g.bytes.now a.answered.result a.answered.new.1.1.0) w
+    subst (λ (ws : List ℕ). Answered ws g.bytes.now a.answered.result a.answered.new.bytes) w
     a.answered.ensures
 
-pub answer-to-spec : {M : Type 1} → statement M
-answer-to-spec =
+pub answer_to_spec : {M : Type 1} → statement M
+answer_to_spec =
     tie.close
     (tie.spec (λ c. search rules) (λ c κs. search rules) (λ c. search rules) (λ c κs. search rules)
     (λ c. search rules) returns)

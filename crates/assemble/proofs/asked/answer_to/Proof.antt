@@ -5,46 +5,46 @@ use Rattle.assemble.proofs.AskedAnswers.{many-commands, many-masks, not-looked, 
 use Rattle.assemble.proofs.asked.answer_to.Statement.{statement}
 use Rattle.assemble.proofs.asked.answer_to.Tie as tie
 
-natural-requires : tie.Need-natural-requires
+natural-requires : tie.Need-natural-commands-requires
 natural-requires c κs = search rules
 
-natural-requires-2 : tie.Need-natural-requires-2
+natural-requires-2 : tie.Need-natural-masks-requires
 natural-requires-2 c κs = search rules
 
-returns : tie.Need-returns
+returns : tie.Need-returns-then-commands-gt-MOST_COMMANDS
 returns c =
-    let a = c.before.before.before.before.before.args in
-    let n = c.before.before.natural.ensures.0 in
+    let a = c.args in
+    let n = c.natural-commands.ensures.0 in
     not-looked a.input.now a.script.now
-    (many-commands a.input.now (omega (arith, n, c.if1.true)))
+    (many-commands a.input.now (omega (arith, n, c.if-commands-gt-MOST_COMMANDS.true)))
 
-returns-2 : tie.Need-returns-2
+returns-2 : tie.Need-returns-then-masks-gt-MOST_MASKS
 returns-2 c =
     let k = c.before.before in
-    let a = k.before.before.before.before.args in
-    let n = k.before.natural.ensures.0 in
-    let m = k.natural2.ensures.0 in
+    let a = k.args in
+    let n = k.natural-commands.ensures.0 in
+    let m = k.natural-masks.ensures.0 in
     not-looked a.input.now a.script.now
-    (many-masks a.input.now (omega (arith, n, c.before.if1.false)) (omega (arith, m, c.if2.true)))
+    (many-masks a.input.now (omega (arith, n, c.if-commands-gt-MOST_COMMANDS.false)) (omega (arith, m, c.if-masks-gt-MOST_MASKS.true)))
 
-write-asked-requires : tie.Need-write-asked-requires
+write-asked-requires : tie.Need-write_asked-requires
 write-asked-requires c κs = search rules
 
-same_length : tie.Need-same-length
+same_length : tie.Need-shape_of-script
 same_length c = search rules
 
-returns-3 : tie.Need-returns-3
+returns-3 : tie.Need-returns
 returns-3 c =
     let w = c.before.before in
     let e = w.before.before in
     let k = e.before.before in
     let s = k.before.before.before.before in
-    looked s.args.input.now s.args.script.now s.requires.1 k.before.natural.ensures.0
-    k.natural2.ensures.0 (omega (arith, e.before.if1.false)) (omega (arith, e.if2.false))
-    w.write-asked.ensures
+    looked s.args.input.now s.args.script.now s.requires.1 k.natural-commands.ensures.0
+    k.natural-masks.ensures.0 (omega (arith, e.if-commands-gt-MOST_COMMANDS.false)) (omega (arith, e.if-masks-gt-MOST_MASKS.false))
+    w.write_asked.ensures
 
-pub answer-to-spec : {M : Type 1} → statement M
-answer-to-spec =
+pub answer_to_spec : {M : Type 1} → statement M
+answer_to_spec =
     tie.close
     (tie.spec
     natural-requires

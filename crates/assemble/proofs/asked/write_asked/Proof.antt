@@ -11,55 +11,55 @@ use Rattle.assemble.proofs.Reading.{given-asked}
 use Rattle.assemble.proofs.asked.write_asked.Statement.{statement}
 use Rattle.assemble.proofs.asked.write_asked.Tie as tie
 
-slice-aggregate-read-words : tie.Need-slice-aggregate-read-words
+slice-aggregate-read-words : tie.Need-slice_bounds-read_words-end
 slice-aggregate-read-words c = search rules
 
-read-words-requires : tie.Need-read-words-requires
+read-words-requires : tie.Need-read_words-requires
 read-words-requires c κs = search rules
 
-slice-aggregate-read-words-2 : tie.Need-slice-aggregate-read-words-2
+slice-aggregate-read-words-2 : tie.Need-slice_bounds-read_words-end-2
 slice-aggregate-read-words-2 c = search rules
 
-read-words-requires-2 : tie.Need-read-words-requires-2
+read-words-requires-2 : tie.Need-read_words-requires-2
 read-words-requires-2 c κs = search rules
 
-add_start : tie.Need-overflow-add-start
+add_start : tie.Need-overflow_add-start
 add_start c = search rules
 
-mul-start : tie.Need-overflow-mul-start
+mul-start : tie.Need-overflow_mul-start
 mul-start c = search rules
 
-add-end : tie.Need-overflow-add-end
+add-end : tie.Need-overflow_add-end
 add-end c = search rules
 
 number-requires : tie.Need-number-requires
 number-requires c κs = search rules
 
-slice-aggregate-params-from : tie.Need-slice-aggregate-params-from
+slice-aggregate-params-from : tie.Need-slice_bounds-params_from-end
 slice-aggregate-params-from c = search rules
 
-params-from-requires : tie.Need-params-from-requires
+params-from-requires : tie.Need-params_from-requires
 params-from-requires c κs = search rules
 
-array-share-prefix-words : tie.Need-array-share-prefix-words
+array-share-prefix-words : tie.Need-slice_bounds-words-end
 array-share-prefix-words c = search rules
 
-slice-aggregate-write-script : tie.Need-slice-aggregate-write-script
+slice-aggregate-write-script : tie.Need-slice_bounds-write_script-end
 slice-aggregate-write-script c = sym (length-take-le _ _ (search rules))
 
-sub-write-script : tie.Need-overflow-sub-write-script
+sub-write-script : tie.Need-slice_bounds-write_script-count
 sub-write-script c = search rules
 
-part-write-script-start : tie.Need-slice-bounds-write-script-start
+part-write-script-start : tie.Need-slice_bounds-write_script-start
 part-write-script-start c = search rules
 
-part-write-script-end : tie.Need-slice-bounds-write-script-end
+part-write-script-end : tie.Need-slice_bounds-write_script-end-2
 part-write-script-end c = search rules
 
-write-script-requires : tie.Need-write-script-requires
+write-script-requires : tie.Need-write_script-requires
 write-script-requires c κs = search rules
 
-same_length : tie.Need-same-length
+same_length : tie.Need-shape_of-script
 same_length c = search rules
 
 returns : tie.Need-returns
@@ -73,14 +73,14 @@ returns c =
     let a = s.args in
     let at = 4 * (67 + a.commands) in
     let e : at + a.masks - at ≡ a.masks = omega arith in
-    subst (λ (g : Given). Wrote (write_of g a.script.now) w.write-script.result
-    w.write-script.new.1.1.1.1.0)
-    (given-asked a.input.now a.commands a.masks n.number.ensures p.params-from.ensures
-    r.read-words.ensures k.read-words2.ensures s.requires.1.0 refl
-    (ap (λ (m : ℕ). take m (drop at a.input.now)) e)) w.write-script.ensures
+    subst (λ (g : Given). Wrote (write_of g a.script.now) w.write_script.result
+    w.write_script.new.script)
+    (given-asked a.input.now a.commands a.masks n.number.ensures p.params_from.ensures
+    r.read_words.ensures k.read_words-2.ensures s.requires.1.0 refl
+    (ap (λ (m : ℕ). take m (drop at a.input.now)) e)) w.write_script.ensures
 
-pub write-asked-spec : {M : Type 1} → statement M
-write-asked-spec =
+pub write_asked_spec : {M : Type 1} → statement M
+write_asked_spec =
     tie.close
     (tie.spec
     slice-aggregate-read-words

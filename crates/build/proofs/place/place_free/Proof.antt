@@ -40,13 +40,13 @@ module _ (c : tie.After-put_free-len invariant-loop decreases-loop) where
   at = taken.before.before.before
 
   inside : at.loop-next.next < (begin at).args.count
-  inside = taken.loop-next-test.taken
+  inside = taken.loop-next-test.true
 
   there : at.loop-next.next < 96
   there = omega (arith, (begin at).requires.1.0, inside)
 
   -- the walk goes on
-  hops : Hop (of_bytes taken.take_first-next-in-loop-next.last.0) (of_bytes (begin at).args.rest.now) (at.loop-next.next + 1)
+  hops : Hop (of_bytes taken.take_first-next-in-loop-next.new.bytes) (of_bytes (begin at).args.rest.now) (at.loop-next.next + 1)
       taken.take_first-next-in-loop-next.result
   hops = hop-on at.loop-next.invariant.1.0 there taken.take_first-next-in-loop-next.ensures (λ j d. refl)
 

@@ -49,10 +49,10 @@ module _ (c : tie.After-put_locked-len invariant-loop decreases-loop) where
   so_far = placed_in at.loop-next.lines at.loop-next.tags at.loop-next.len (st at).scale at.loop-next.rest
 
   inside : at.loop-next.next < (begin at).args.count
-  inside = taken.loop-next-test.taken
+  inside = taken.loop-next-test.true
 
   -- the walk goes on, and it does not matter by which initial map
-  hops : Hop (of_bytes taken.take_first-next-in-loop-next.last.0) (of_bytes c.put_locked-len.new.1.1.1.0) (at.loop-next.next + 1)
+  hops : Hop (of_bytes taken.take_first-next-in-loop-next.new.bytes) (of_bytes c.put_locked-len.new.rest) (at.loop-next.next + 1)
       taken.take_first-next-in-loop-next.result
   hops =
       round-hops (locked-round (st at) (new_map (st at).scale) false) (begin at).args.stems.now

@@ -21,6 +21,7 @@ use Rattle.build.specs.Build.{saved_stem, saved_in, saved_all, no_stem}
 use Rattle.build.proofs.Saved.{save-more, save-ends, save-synthetic, save-stem, save-past}
 use Rattle.build.proofs.save.save_all.Statement.{statement}
 use Rattle.build.proofs.save.save_all.Tie as tie
+use Rattle.build.proofs.save.save_all.Lts.{then-k-lt-MAX_HINTS, else-k-lt-MAX_HINTS}
 
 abbrev invariant-loop : tie.invariant-loop-i
 invariant-loop stems₀ lines tags len i₀ stems i =
@@ -78,15 +79,18 @@ loop-again-2 c =
     let n = (at e).loop-i.invariant.1.0 in
     let real = sym s.is_synthetic.ensures ∙ s.if-is_synthetic.false in
     let x = e.edge_at-edge.result in
-    ⊎_elim
-    (λ w. let k : x.index < 96 = search (rules, w.0.true) in
-    let q = w.6 ∙ w.5.ensures in
-    let f = w.4.ensures ∙ ap (saved_stem x) w.3.ensures in
-    again e _ (rw q (set_long _ n x.index k _)) (λ m. saved-in _ m x _ n k real f ∙ sym (ap (λ y. stems_in y m) q)))
-    (λ w. again e _ (rw w.1 n)
-    (λ m. save-past x _ (omega (arith, w.0.left, stems-long (at e).loop-i.stems m)) ∙
-    sym (ap (λ y. stems_in y m) w.1)))
-    c.if-k-lt-MAX_HINTS.branch
+    elim c.if-k-lt-MAX_HINTS.branch [
+      | then-k-lt-MAX_HINTS w ↦
+          let k : x.index < 96 = search (rules, w.if-k-lt-MAX_HINTS.true) in
+          let q = w.stems-is ∙ w.put_stem.ensures in
+          let f = w.saved.ensures ∙ ap (saved_stem x) w.stem_at.ensures in
+          again e _ (rw q (set_long _ n x.index k _))
+          (λ m. saved-in _ m x _ n k real f ∙ sym (ap (λ y. stems_in y m) q))
+      | else-k-lt-MAX_HINTS w ↦
+          again e _ (rw w.stems-is n)
+          (λ m. save-past x _ (omega (arith, w.if-k-lt-MAX_HINTS.false, stems-long (at e).loop-i.stems m)) ∙
+          sym (ap (λ y. stems_in y m) w.stems-is))
+    ]
 
 returns : tie.Need-returns invariant-loop decreases-loop
 returns c =

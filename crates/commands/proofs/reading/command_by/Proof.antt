@@ -103,7 +103,7 @@ returns-9 c = rw c.in-9.is
 returns-10 : tie.Need-returns-in_default
 unfolding command_of
 returns-10 c =
-    let r = c.in_default.rest in
+    let r = c.in_default.in_default-own.rest in
     rw (
       ne_eqb _ _ r.0.0.0.0.0.0.0.0.1,
       ne_eqb _ _ r.0.0.0.0.0.0.0.1,

@@ -33,7 +33,7 @@ returns-6 c = (sym (ap operands_of c.in-7.is), omega arith)
 returns-7 : tie.Need-returns-in_default
 unfolding operands_of
 returns-7 c =
-    let r = c.in_default.rest in (
+    let r = c.in_default.in_default-own.rest in (
       rw (
         ne_eqb _ _ r.0.0.0.0.0.1,
         ne_eqb _ _ r.0.0.0.0.1,

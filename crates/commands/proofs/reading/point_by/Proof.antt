@@ -7,7 +7,7 @@ use Rattle.commands.proofs.reading.point_by.Tie as tie
 add-number-by : tie.Need-overflow_add-at
 add-number-by c =
     let a = c.args in
-    search (rules, count_most a.as-words a.part.now a.words.now)
+    search (rules, count_most a.as_words a.part.now a.words.now)
 
 returns : tie.Need-returns
 returns c = rw (c.number_by-x.ensures, c.number_by-y.ensures)

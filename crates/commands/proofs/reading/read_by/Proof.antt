@@ -17,7 +17,7 @@ words_of s = word_by s.args.as_words s.args.part.now s.args.words.now
 add-next-2 : tie.Need-overflow_add-next-2
 add-next-2 c =
     let a = c.args in
-    search (rules, count_most a.as-words a.part.now a.words.now)
+    search (rules, count_most a.as_words a.part.now a.words.now)
 
 returns : tie.Need-returns-then-n-next
 unfolding read_at

@@ -162,11 +162,11 @@ all-zero-requires c κs = search rules
 
 returns-10 : tie.Need-returns-then-not-all_zero
 unfolding header_rows
-returns-10 c = says (stop 8 (at8 c.before.before) (ap not (zeros c.before) ∙ c.if-not-all_zero.true))
+returns-10 c = says (stop 8 (at8 c.before.before) (ap not (zeros c.before ∙ c.if-not-all_zero.true)))
 
 returns-11 : tie.Need-returns
 unfolding header_rows first_or
-returns-11 c = says (sym (pass 8 (at8 c.before.before) (ap not (zeros c.before) ∙ c.if-not-all_zero.false)).rest)
+returns-11 c = says (sym (pass 8 (at8 c.before.before) (ap not (zeros c.before ∙ c.if-not-all_zero.false))).rest)
 
 pub check_header_spec : {M : Type 1} → statement M
 check_header_spec =

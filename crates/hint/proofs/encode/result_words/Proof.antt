@@ -14,23 +14,23 @@ use Rattle.hint.specs.Encode.{result_in}
 use Rattle.hint.proofs.encode.result_words.Statement.{statement}
 use Rattle.hint.proofs.encode.result_words.Tie as tie
 
-returns : tie.Need-returns
+returns : tie.Need-returns-then-out-lt4
 unfolding result_in
 returns c =
-    let o = c.before.args.out.now in
+    let o = c.args.out.now in
     omega (arith, length-take (4 + bits_of (get_or o 3 (pos 0))) o)
 
-returns-2 : tie.Need-returns-2
+returns-2 : tie.Need-returns
 unfolding result_in
 returns-2 c =
     let b = c.before in
-    let o = b.before.before.before.args.out.now in
+    let o = b.args.out.now in
     let f : SFits w32 (get_or o 3 (pos 0)) = search rules in
     c.least.ensures ∙ ap (λ (n : ℕ). min (4 + n) (length o)) (b.bits_of.ensures ∙ ap bits_of (to_z-of_z f)) ∙
     sym (length-take (4 + bits_of (get_or o 3 (pos 0))) o)
 
-pub result-words-spec : {M : Type 1} → statement M
-result-words-spec =
+pub result_words_spec : {M : Type 1} → statement M
+result_words_spec =
     tie.close
     (tie.spec returns (λ c. search rules) (λ c κs. search rules) (λ c. search rules) (λ c. search rules)
     (λ c κs. search rules) returns-2)

@@ -65,7 +65,7 @@ module _ (c : tie.In-loop-i invariant-loop decreases-loop) where
   turn : (at < 96) × (take (at + 1) rs ≡ take at rs ++ (record_at (begin c.before).args.map at ∷ []))
   turn =
       let b = begin c.before in
-      listed-stand b.args.map _ (held-long b.args.map b.good.0.1.1.0.1.0.1) at there
+      listed-stand b.args.map _ (held-long b.args.map b.well_formed.0.1.1.0.1.0.1) at there
 
   room : 6 * at + 6 ≤ length c.loop-i.list
   room = omega (arith, same c.before, fits c.before, there)
@@ -120,7 +120,7 @@ loop-again c =
     let l = c.before.before.before.before.before in
     let d = l.before in
     let r = record_at (begin d).args.map (at l) in
-    let part = c.put_record.new.0 in (
+    let part = c.put_record.new.words in (
       search rules,
       ap (λ (x : List ℤ). put_mid (6 * at l) (6 * at l + 6 - 6 * at l) x part) d.loop-i.invariant.1 ∙
           one_more (lent d) (take (at l) (rs l)) (omega (arith, done d, fits d, there l)) r (at l) (sym (done d))

@@ -2,7 +2,6 @@
 -- counted, and no more than `i`. Assumes nothing.
 use mathlib.Core.Path.{◌≡◌, refl, sym, ap, ◌∙◌}
 use mathlib.Core.Bool.{Bool, cond}
-use mathlib.Core.Logic.{⊎_elim}
 use Prim.Native.Nat.{ℕ, ◌≤◌, ◌<◌, ◌-◌, ◌+◌}
 use native.Mathlib.Omega.{arith}
 use lib.ListN.{length, take}
@@ -11,6 +10,7 @@ use borrow.Author.Rules.{rules}
 use Rattle.hintmap.proofs.Near.{held-long}
 use Rattle.listing.specs.Records.{edge_records, counts, count_of}
 use Rattle.listing.proofs.Counting.{records-length, count-more}
+use Rattle.listing.proofs.summary.count.Lts.{then-counts_as, else-counts_as}
 use Rattle.listing.proofs.summary.count.Statement.{statement}
 use Rattle.listing.proofs.summary.count.Tie as tie
 
@@ -33,7 +33,7 @@ module _ (c : tie.After-counts_as invariant-loop decreases-loop) where
       loop.loop-i.count + cond t 1 0 ≡
       count_of (counts begin.args.what) (take (loop.loop-i.i + 1) (edge_records begin.args.map))
   turned e =
-      let l = held-long begin.args.map begin.good.0.1.1.0.1.0.1 in
+      let l = held-long begin.args.map begin.well_formed.0.1.1.0.1.0.1 in
       let h : loop.loop-i.i < length (edge_records begin.args.map) =
       omega (arith, records-length begin.args.map l, loop.least-len.ensures) in
       let f = counts begin.args.what in
@@ -70,8 +70,11 @@ loop-less c = search rules
 
 loop-again : tie.Need-loop-i-preserved invariant-loop decreases-loop
 loop-again c =
-    ⊎_elim (λ w. (omega arith, (omega arith, w.1 ∙ turned c.before w.0.true)))
-    (λ w. (omega arith, (omega arith, omega (arith, w.1, turned c.before w.0.left)))) c.if-counts_as.branch
+    elim c.if-counts_as.branch [
+      | then-counts_as w ↦ (omega arith, (omega arith, w.count-is ∙ turned c.before w.if-counts_as.true))
+      | else-counts_as w ↦
+          (omega arith, (omega arith, omega (arith, w.count-is, turned c.before w.if-counts_as.false)))
+    ]
 
 returns : tie.Need-returns invariant-loop decreases-loop
 returns c =

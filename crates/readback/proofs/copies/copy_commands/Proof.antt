@@ -84,7 +84,7 @@ loop-again c =
     let k = p.natural-kind.ensures.0 in
     let g = c.given_operands.ensures.0 in
     let o = c.operands.ensures.0 in
-    let e : length p.copy_piece.new.1.1.0 ≡ length l.loop-at.commands = p.copy_piece.auto.1.1.0 in (
+    let e : length p.copy_piece.new.commands ≡ length l.loop-at.commands = p.copy_piece.auto.commands in (
       walk-next w a.first a.n l.loop-at.invariant.0 (omega arith) k g o,
       (
         e ∙ l.loop-at.invariant.1.0,

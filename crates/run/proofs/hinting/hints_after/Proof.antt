@@ -2,7 +2,6 @@
 -- commands from here on as are left, give the hints that are asked. Assumes nothing.
 use mathlib.Core.Path.{◌≡◌, refl, sym, ap, ◌∙◌}
 use mathlib.Core.Bool.{Bool}
-use mathlib.Core.Logic.{⊎_elim}
 use Prim.Native.Nat.{suc, ◌+◌, ◌-◌, ◌*◌, ◌≤◌}
 use native.Mathlib.Omega.{arith}
 use lib.ListN.{length, drop, length-drop}
@@ -25,6 +24,9 @@ use Rattle.run.proofs.Reading.{mask-there}
 use Rattle.run.proofs.Turns.{wanted}
 use Rattle.run.proofs.Looking.{Looking, looking, turn, none_left, none-there}
 use Rattle.run.proofs.hinting.hints_after.Statement.{statement}
+use Rattle.run.proofs.hinting.hints_after.Lts.{in-Mark+in-Bad, in-Mark+in-Stem, in-Mark+in-Mask, in-Mark+in-Counter}
+use Rattle.run.proofs.hinting.hints_after.Lts.{in-Mark+in-Clear, in-Mark+in-Close}
+use Rattle.run.proofs.hinting.hints_after.Lts.{in-Draw+then-wants_map, in-Draw+else-wants_map}
 use Rattle.run.proofs.hinting.hints_after.Tie as tie
 
 abbrev invariant-loop : tie.invariant-loop
@@ -36,7 +38,7 @@ decreases-loop script first n from state commands start hints₀ at₀ counter�
 
 -- the arguments, from a turn's start
 abbrev begin : tie.At-loop invariant-loop decreases-loop → tie.Start invariant-loop decreases-loop
-begin l = l.before.before.before
+begin l = l.before.before.before.before
 
 -- a word that is there starts in the script
 first-inside : (c : tie.Else-at-n invariant-loop decreases-loop) →
@@ -79,25 +81,30 @@ made c =
     let l = here r in
     let a = (begin l).args in
     let h = l.loop.hints in
-    ⊎_elim (λ w. ap (asks r) w.1.given.1 ∙ ap (marks r) w.4.given.1 ∙ sym w.5)
-    (⊎_elim (λ w. ap (asks r) w.1.given.1 ∙ ap (marks r) w.4.given.1 ∙ sym (w.7 ∙ w.6.ensures))
-    (⊎_elim
-    (λ w. ap (asks r) w.1.given.1 ∙ ap (marks r) w.4.given.1 ∙
-    ap (λ (m : HintMask). with_mask m h) (sym w.6.ensures) ∙ sym (w.8 ∙ w.7.ensures))
-    (⊎_elim
-    (λ w. ap (asks r) w.1.given.1 ∙ ap (marks r) w.4.given.1 ∙
-    ap (λ (m : HintMask). countered a.state m h) (sym w.6.ensures) ∙ sym (w.8 ∙ w.7.ensures))
-    (⊎_elim (λ w. ap (asks r) w.1.given.1 ∙ ap (marks r) w.4.given.1 ∙ sym (w.6 ∙ w.5.ensures))
-    (⊎_elim (λ w. ap (asks r) w.1.given.1 ∙ ap (marks r) w.4.given.1 ∙ sym w.5)
-    (⊎_elim
-    (λ w. ap (asks r) w.1.given.1 ∙
-    ap (λ (b : Bool). ready_for b a.state h)
-    (wanted h.map.is_valid w.1.given.0.0 (sym w.3.ensures ∙ w.4.true)).1 ∙
-    sym (w.6 ∙ w.5.ensures))
-    (λ w. ap (asks r) w.1.given.1 ∙
-    idle-hints a.state h h.map.is_valid refl w.1.given.0.0 (sym w.3.ensures ∙ w.4.left) ∙
-    sym w.5)))))))
-    c.match-command.branch
+    elim c.match-command.branch [
+      | in-Mark+in-Bad w ↦ ap (asks r) w.in-Mark.is ∙ ap (marks r) w.in-Bad.is ∙ sym w.hints-is
+      | in-Mark+in-Stem w ↦
+          ap (asks r) w.in-Mark.is ∙ ap (marks r) w.in-Stem.is ∙ sym (w.hints-is ∙ w.with_stem-hints.ensures)
+      | in-Mark+in-Mask w ↦
+          ap (asks r) w.in-Mark.is ∙ ap (marks r) w.in-Mask.is ∙
+          ap (λ (m : HintMask). with_mask m h) (sym w.mask_at.ensures) ∙ sym (w.hints-is ∙ w.with_mask-hints.ensures)
+      | in-Mark+in-Counter w ↦
+          ap (asks r) w.in-Mark.is ∙ ap (marks r) w.in-Counter.is ∙
+          ap (λ (m : HintMask). countered a.state m h) (sym w.mask_at-in-Counter.ensures) ∙
+          sym (w.hints-is ∙ w.counter-hints.ensures)
+      | in-Mark+in-Clear w ↦
+          ap (asks r) w.in-Mark.is ∙ ap (marks r) w.in-Clear.is ∙ sym (w.hints-is ∙ w.new-hints-in-Clear.ensures)
+      | in-Mark+in-Close w ↦ ap (asks r) w.in-Mark.is ∙ ap (marks r) w.in-Close.is ∙ sym w.hints-is
+      | in-Draw+then-wants_map w ↦
+          ap (asks r) w.in-Draw.is ∙
+          ap (λ (b : Bool). ready_for b a.state h)
+          (wanted h.map.is_valid w.in-Draw.path (sym w.wants_map.ensures ∙ w.if-wants_map.true)).1 ∙
+          sym (w.hints-is ∙ w.ready-hints.ensures)
+      | in-Draw+else-wants_map w ↦
+          ap (asks r) w.in-Draw.is ∙
+          idle-hints a.state h h.map.is_valid refl w.in-Draw.path (sym w.wants_map.ensures ∙ w.if-wants_map.false) ∙
+          sym w.hints-is
+    ]
 
 mul-start : tie.Need-overflow_mul-start invariant-loop decreases-loop
 mul-start c = omega (arith, c.requires.1.start)
@@ -107,7 +114,7 @@ new-requires c κs = search rules
 
 loop-holds : tie.Need-loop-init invariant-loop decreases-loop
 loop-holds c =
-    let s = c.before.before in
+    let s = c in
     let a = s.args in
     rw c.new-hints.ensures (looking a.state a.script.now (raw_at (drop (4 * a.first) a.script.now)) a.first
     a.n a.from a.commands s.requires.1 (omega arith))
@@ -146,9 +153,7 @@ enum-known-marking-2 c = search rules
 
 mask-at-requires : tie.Need-mask_at-requires invariant-loop decreases-loop
 mask-at-requires c κs =
-    let k = c.before in
-    let m = k.before.before.before in
-    omega (arith, inside m.before.before (m.in-Mark.is ∙ ap Mark k.in-Mask.is))
+    omega (arith, inside c.before.before (c.in-Mark.is ∙ ap Mark c.in-Mask.is))
 
 with-mask-requires : tie.Need-with_mask-hints-requires invariant-loop decreases-loop
 with-mask-requires c κs = search rules
@@ -158,9 +163,7 @@ enum-known-marking-3 c = search rules
 
 mask-at-requires-2 : tie.Need-mask_at-requires-in-Counter invariant-loop decreases-loop
 mask-at-requires-2 c κs =
-    let k = c.before in
-    let m = k.before.before.before in
-    omega (arith, inside m.before.before (m.in-Mark.is ∙ ap Mark k.in-Counter.is))
+    omega (arith, inside c.before.before (c.in-Mark.is ∙ ap Mark c.in-Counter.is))
 
 counter-requires : tie.Need-counter-hints-requires invariant-loop decreases-loop
 counter-requires c κs = search rules

@@ -1,6 +1,6 @@
 -- `marked` meets its contract, by the kind of the command. Assumes nothing.
 use borrow.Author.Rules.{rules}
-use mathlib.Core.Path.{◌≡◌, sym, ap, subst, ◌∙◌}
+use mathlib.Core.Path.{◌≡◌, sym, ap, subst}
 use mathlib.Core.List.{List}
 use Prim.Native.Nat.{ℕ}
 use native.Mathlib.Omega.{arith}
@@ -44,7 +44,7 @@ module _ (st : HintState) (h : Hints) (z : Sizes) (bs : List ℕ) (ns is ms : Li
 
 returns : tie.Need-returns-in-Bad
 returns c =
-    let s = c in (
+    let s = c.before.before in (
       record {
         whole = s.requires.0.build.whole;
         long = s.requires.0.build.long;
@@ -128,7 +128,7 @@ returns-5 c =
 
 returns-6 : tie.Need-returns-in-Close
 returns-6 c =
-    let s = c in (
+    let s = c.before.before in (
       record {
         whole = s.requires.0.build.whole;
         long = s.requires.0.build.long;

@@ -25,5 +25,5 @@ returns c =
 pub run_spec : {M : Type 1} → statement M
 run_spec =
     tie.close
-    (tie.spec (λ c κs. search rules) (λ c. search rules) (λ c κs. search rules) run-by-requires (λ c. search rules)
+    (tie.spec (λ c κs. search rules) (λ c κs. search rules) run-by-requires (λ c. search rules)
     returns)

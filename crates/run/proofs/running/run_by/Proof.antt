@@ -53,7 +53,7 @@ room l = omega (arith, (begin l).well_formed.1.1.1.1.1.1.1.1.1.1.1.1.1.1.0)
 
 -- the lists for the maps serve as they did
 spare : (l : tie.At-loop-at invariant-loop decreases-loop) →
-    Spare l.loop-at.stems l.loop-at.initial l.loop-at.map l.loop-at.tags l.loop-at.notes
+    Spare l.loop-at.stems l.loop-at.initial' l.loop-at.map l.loop-at.tags l.loop-at.notes
 spare l =
     let m = mappable _ _ _ _ _ _ _ _ _ _ _ _ _ _ _ _ _ l.loop-at.invariant.0 in
     record { long = m.build.long; whole = m.build.whole; current = m.current; notes = l.loop-at.invariant.1 }
@@ -63,15 +63,15 @@ module _ (c : tie.After-read_by-read invariant-loop decreases-loop) where
   abbrev turn : tie.At-loop-at invariant-loop decreases-loop
   turn = c.before.before
 
-  read_is : c.read_by_lem.result.command ≡
+  read_is : c.read_by-read.result.command ≡
       (read_at (words_of turn) (begin turn).args.n turn.loop-at.at).command
-  read_is = ap (λ (r : Read). r.command) c.read_by_lem.ensures
+  read_is = ap (λ (r : Read). r.command) c.read_by-read.ensures
 
-  moved : c.read_by_lem.result.next ≡ next_at (words_of turn) turn.loop-at.at
-  moved = ap (λ (r : Read). r.next) c.read_by_lem.ensures ∙ next-is _ _ _
+  moved : c.read_by-read.result.next ≡ next_at (words_of turn) turn.loop-at.at
+  moved = ap (λ (r : Read). r.next) c.read_by-read.ensures ∙ next-is _ _ _
 
 -- a command that writes nothing
-module _ (c : tie.In-Mark-2 invariant-loop decreases-loop) where
+module _ (c : tie.In-Mark invariant-loop decreases-loop) where
   abbrev mark-turn : tie.At-loop-at invariant-loop decreases-loop
   mark-turn = turn c.before
 
@@ -104,7 +104,7 @@ module _ (c : tie.After-draw_by_lines-drawn invariant-loop decreases-loop) where
 
   drew : Drew (stroke_by call-turn.loop-at.invariant.0.hints.map (begin call-turn).args.gauge.scale
       call-turn.loop-at.pen (path asked)) call-turn.loop-at.pen (drop call-turn.loop-at.next call-turn.loop-at.out)
-      c.draw_by_lines-drawn.result c.draw_by_lines-drawn.new.1.1.1.1.1.1.0
+      c.draw_by_lines-drawn.result c.draw_by_lines-drawn.new.out
   drew =
       let k = call-turn.loop-at.invariant.0.kept.map in
       rw (lent call-turn.loop-at.out call-turn.loop-at.next) at
@@ -114,11 +114,11 @@ module _ (c : tie.After-draw_by_lines-drawn invariant-loop decreases-loop) where
   unwanted = sym asked.wants_map.ensures ∙ c.if-wants_map.false
 
   same_out : length (put_mid call-turn.loop-at.next (length call-turn.loop-at.out - call-turn.loop-at.next)
-      call-turn.loop-at.out c.draw_by_lines-drawn.new.1.1.1.1.1.1.0) ≡ length (begin call-turn).args.out.now
+      call-turn.loop-at.out c.draw_by_lines-drawn.new.out) ≡ length (begin call-turn).args.out.now
   same_out =
       same_len_mid call-turn.loop-at.next (length call-turn.loop-at.out - call-turn.loop-at.next)
-      call-turn.loop-at.out c.draw_by_lines-drawn.new.1.1.1.1.1.1.0
-      c.draw_by_lines-drawn.auto.1.1.1.1.1.1.0 ∙
+      call-turn.loop-at.out c.draw_by_lines-drawn.new.out
+      c.draw_by_lines-drawn.auto.out ∙
       call-turn.loop-at.invariant.0.goes.stands.along.same
 
 loop-holds : tie.Need-loop-at-init invariant-loop decreases-loop
@@ -142,8 +142,8 @@ loop-less c =
 
 loop-again : tie.Need-loop-at-preserved-then-is_close invariant-loop decreases-loop
 loop-again c =
-    let m = c in
-    let r = m.before.before.before in
+    let m = c.before.before in
+    let r = m.before in
     let i = (mark-turn m).loop-at.invariant in (
       rw (moved r)
           (closes _ _ _ _ _ _ _ _ _ _ _ _ _ _ _ _ _ i.0 r.loop-at-test.true (mark-is m)
@@ -153,7 +153,7 @@ loop-again c =
 
 marked-requires : tie.Need-marked-sizes-requires invariant-loop decreases-loop
 marked-requires c κs =
-    let m = c in
+    let m = c.before.before.before.before.before.before.before in
     let i = (mark-turn m).loop-at.invariant in (
       record {
         named = mask-there i.0.goes.sound m.loop-at-test.true (mark-is m);
@@ -165,14 +165,14 @@ marked-requires c κs =
 
 loop-less-2 : tie.Need-loop-at-smaller-in-Mark invariant-loop decreases-loop
 loop-less-2 c =
-    let m = c in
-    let r = m.before.before.before.before.before.before.before.before.before in
+    let m = c.before.before.before.before.before.before.before.before in
+    let r = m.before in
     omega (arith, moved r, r.loop-at-test.true, unready-one c.marked-sizes.result.valid)
 
 loop-again-2 : tie.Need-loop-at-preserved-in-Mark invariant-loop decreases-loop
 loop-again-2 c =
-    let m = c in
-    let r = m.before.before.before.before.before.before.before.before.before in
+    let m = c.before.before.before.before.before.before.before.before in
+    let r = m.before in
     let i = (mark-turn m).loop-at.invariant in (
       rw (moved r)
           (marks _ _ _ _ _ _ _ _ _ _ _ _ _ _ _ _ _ i.0 r.loop-at-test.true _ _ _ _ _ (mark-is m)
@@ -202,15 +202,15 @@ loop-again-3 : tie.Need-loop-at-preserved-then-wants_map invariant-loop decrease
 loop-again-3 c =
     let w = for c in
     let i = (draw-turn w).loop-at.invariant in (
-      readies _ _ _ _ _ _ _ _ _ _ _ _ _ _ _ _ _ i.0 (draw-read w).loop-at-test.taken _ _ _ _ _ (draw-is w)
+      readies _ _ _ _ _ _ _ _ _ _ _ _ _ _ _ _ _ i.0 (draw-read w).loop-at-test.true _ _ _ _ _ (draw-is w)
           (want c).1 (want c).0 c.ready-sizes.ensures.0,
       c.ready-sizes.ensures.1,
     )
 
 -- what is left of the output is where it was
-within : (c : tie.After-draw_by_lines-arg-1 invariant-loop decreases-loop) → let l = draw-turn c.before.before.before in
+within : (c : tie.After-scale-1 invariant-loop decreases-loop) → let l = draw-turn c.before.before in
     l.loop-at.next ≤ length l.loop-at.out
-within c = (draw-turn c.before.before.before).loop-at.invariant.0.goes.stands.along.within
+within c = (draw-turn c.before.before).loop-at.invariant.0.goes.stands.along.within
 
 mul-draw-by-lines : tie.Need-offset_bounds-out-next invariant-loop decreases-loop
 mul-draw-by-lines c =
@@ -226,7 +226,7 @@ add-t49 : tie.Need-overflow_add-result invariant-loop decreases-loop
 add-t49 c =
     let d = c.before.before in
     let l = call-turn d in
-    omega (arith, (begin l).requires.1.0.start, (begin l).requires.1.0.short, (draw-read (asked d)).loop-at-test.taken)
+    omega (arith, (begin l).requires.1.0.start, (begin l).requires.1.0.short, (draw-read (asked d)).loop-at-test.true)
 
 returns : tie.Need-returns-in_default invariant-loop decreases-loop
 returns c =
@@ -234,7 +234,7 @@ returns c =
     let w = asked d in
     let l = call-turn d in (
       rw (back l.loop-at.next l.loop-at.out)
-          (refuses _ _ _ _ _ _ _ _ _ _ _ _ _ _ _ _ _ l.loop-at.invariant.0 (draw-read w).loop-at-test.taken _ _
+          (refuses _ _ _ _ _ _ _ _ _ _ _ _ _ _ _ _ _ l.loop-at.invariant.0 (draw-read w).loop-at-test.true _ _
           (draw-is w) (unwanted d) (drew-refused (drew d) c.in_default.is)),
       spare l,
     )
@@ -267,7 +267,7 @@ add-next c =
 loop-less-4 : tie.Need-loop-at-smaller invariant-loop decreases-loop
 loop-less-4 c =
     let r = draw-read (asked (done c)) in
-    omega (arith, moved r, r.loop-at-test.taken)
+    omega (arith, moved r, r.loop-at-test.true)
 
 loop-again-4 : tie.Need-loop-at-preserved invariant-loop decreases-loop
 loop-again-4 c =
@@ -276,7 +276,7 @@ loop-again-4 c =
     let l = call-turn d in
     let q = drew-wrote (drew d) c.in-Wrote.count c.in-Wrote.is in (
       rw (moved (draw-read w), back l.loop-at.next l.loop-at.out)
-          (draws _ _ _ _ _ _ _ _ _ _ _ _ _ _ _ _ _ l.loop-at.invariant.0 (draw-read w).loop-at-test.taken _ _ _
+          (draws _ _ _ _ _ _ _ _ _ _ _ _ _ _ _ _ _ l.loop-at.invariant.0 (draw-read w).loop-at-test.true _ _ _
           (draw-is w) (unwanted d) q),
       l.loop-at.invariant.1,
     )

@@ -53,7 +53,7 @@ module _ (c : tie.After-run_commands-ran) where
   abbrev fit : Fitted
   fit = ran script out (no-fault begun) enough
 
-  ended : Ended (ending_of fit (drop 4 out)) c.run_commands-ran.result c.run_commands-ran.new.1.0
+  ended : Ended (ending_of fit (drop 4 out)) c.run_commands-ran.result c.run_commands-ran.new.out
   ended = rw lent at c.run_commands-ran.ensures
 
   answer-is : c.run_commands-ran.result.answer ≡ fit.said
@@ -63,13 +63,13 @@ module _ (c : tie.After-run_commands-ran) where
   words_are = ended.words
 
   abbrev mid : List ℤ
-  mid = put_mid 4 (length out - 4) out c.run_commands-ran.new.1.0
+  mid = put_mid 4 (length out - 4) out c.run_commands-ran.new.out
 
   mid-length : length mid ≡ length out
-  mid-length = same_len_mid 4 (length out - 4) out c.run_commands-ran.new.1.0 c.run_commands-ran.auto.1.0
+  mid-length = same_len_mid 4 (length out - 4) out c.run_commands-ran.new.out c.run_commands-ran.auto.out
 
   home : mid ≡ take 4 out ++ written fit.words (drop 4 out)
-  home = back 4 out c.run_commands-ran.new.1.0 ∙ ap (λ (l : List ℤ). take 4 out ++ l) ended.memory
+  home = back 4 out c.run_commands-ran.new.out ∙ ap (λ (l : List ℤ). take 4 out ++ l) ended.memory
 
   few : length fit.words ≤ 163840
   few = short script (length (drop 4 out)) (passed script (all-ok begun))

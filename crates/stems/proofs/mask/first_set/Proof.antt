@@ -1,6 +1,5 @@
 -- `first_set` meets its contract: the leading zeros of a byte are the bits before the first that is set.
 -- Assumes nothing.
-use mathlib.Core.Path.{◌≡◌}
 use native.Mathlib.Omega.{arith}
 use lib.Count.{leading_le}
 use Rattle.stems.proofs.FirstStem.{first-leading}

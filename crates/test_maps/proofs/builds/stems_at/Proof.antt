@@ -5,65 +5,65 @@ use borrow.Author.Rules.{rules}
 use Rattle.test_maps.proofs.builds.stems_at.Statement.{statement}
 use Rattle.test_maps.proofs.builds.stems_at.Tie as tie
 
-abbrev invariant-loop : tie.invariant-loop
+abbrev invariant-loop : tie.invariant-loop-i
 invariant-loop row at count stems₀ i₀ stems i = i ≤ count
 
-abbrev decreases-loop : tie.decreases-loop
+abbrev decreases-loop : tie.decreases-loop-i
 decreases-loop row at count stems₀ i₀ stems i = count - i
 
-count-requires : tie.Need-count-requires invariant-loop decreases-loop
+count-requires : tie.Need-count-count-requires invariant-loop decreases-loop
 count-requires c κs = search rules
 
-stem-requires : tie.Need-stem-requires invariant-loop decreases-loop
+stem-requires : tie.Need-stem-none-requires invariant-loop decreases-loop
 stem-requires c κs = search rules
 
-loop-holds : tie.Need-loop-init invariant-loop decreases-loop
+loop-holds : tie.Need-loop-i-init invariant-loop decreases-loop
 loop-holds c = search rules
 
-add-fixed : tie.Need-overflow-add-fixed invariant-loop decreases-loop
+add-fixed : tie.Need-overflow_add-at invariant-loop decreases-loop
 add-fixed c = search rules
 
-mul-fixed : tie.Need-overflow-mul-fixed invariant-loop decreases-loop
+mul-fixed : tie.Need-overflow_mul-i invariant-loop decreases-loop
 mul-fixed c = search rules
 
-add-fixed-2 : tie.Need-overflow-add-fixed-2 invariant-loop decreases-loop
+add-fixed-2 : tie.Need-overflow_add-at-in-loop-i invariant-loop decreases-loop
 add-fixed-2 c = search rules
 
-fixed-requires : tie.Need-fixed-requires invariant-loop decreases-loop
+fixed-requires : tie.Need-fixed-min-requires invariant-loop decreases-loop
 fixed-requires c κs = search rules
 
-add-fixed-3 : tie.Need-overflow-add-fixed-3 invariant-loop decreases-loop
+add-fixed-3 : tie.Need-overflow_add-at-in-loop-i-2 invariant-loop decreases-loop
 add-fixed-3 c = search rules
 
-mul-fixed-2 : tie.Need-overflow-mul-fixed-2 invariant-loop decreases-loop
+mul-fixed-2 : tie.Need-overflow_mul-i-in-loop-i invariant-loop decreases-loop
 mul-fixed-2 c = search rules
 
-add-fixed-4 : tie.Need-overflow-add-fixed-4 invariant-loop decreases-loop
+add-fixed-4 : tie.Need-overflow_add-at-in-loop-i-3 invariant-loop decreases-loop
 add-fixed-4 c = search rules
 
-fixed-requires-2 : tie.Need-fixed-requires-2 invariant-loop decreases-loop
+fixed-requires-2 : tie.Need-fixed-max-requires invariant-loop decreases-loop
 fixed-requires-2 c κs = search rules
 
-stem-requires-2 : tie.Need-stem-requires-2 invariant-loop decreases-loop
+stem-requires-2 : tie.Need-stem-requires invariant-loop decreases-loop
 stem-requires-2 c κs = search rules
 
-declared-requires : tie.Need-declared-requires invariant-loop decreases-loop
+declared-requires : tie.Need-declared-stems-requires invariant-loop decreases-loop
 declared-requires c κs = search rules
 
-add-i : tie.Need-overflow-add-i invariant-loop decreases-loop
+add-i : tie.Need-overflow_step-i invariant-loop decreases-loop
 add-i c = search rules
 
-loop-less : tie.Need-loop-smaller invariant-loop decreases-loop
+loop-less : tie.Need-loop-i-smaller invariant-loop decreases-loop
 loop-less c = search rules
 
-loop-again : tie.Need-loop-preserved invariant-loop decreases-loop
+loop-again : tie.Need-loop-i-preserved invariant-loop decreases-loop
 loop-again c = search rules
 
 returns : tie.Need-returns invariant-loop decreases-loop
 returns c = search rules
 
-pub stems-at-spec : {M : Type 1} → statement M
-stems-at-spec =
+pub stems_at_spec : {M : Type 1} → statement M
+stems_at_spec =
     tie.close
     (tie.spec
     invariant-loop

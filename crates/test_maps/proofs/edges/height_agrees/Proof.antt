@@ -5,8 +5,8 @@ use Rattle.hintmap.proofs.Found.{unknown}
 use Rattle.test_maps.proofs.edges.height_agrees.Statement.{statement}
 use Rattle.test_maps.proofs.edges.height_agrees.Tie as tie
 
-pub height-agrees-spec : {M : Type 1} → statement M
-height-agrees-spec =
+pub height_agrees_spec : {M : Type 1} → statement M
+height_agrees_spec =
     tie.close
     (tie.spec (λ c κs. search rules) (λ c κs. search (rules, unknown)) (λ c. search rules) (λ c κs. search rules)
     (λ c. search rules))

@@ -8,26 +8,26 @@ use Rattle.hintmap.proofs.Lent.{none_lent}
 use Rattle.test_maps.proofs.maps.put_stems.Statement.{statement}
 use Rattle.test_maps.proofs.maps.put_stems.Tie as tie
 
-abbrev invariant-loop : tie.invariant-loop
+abbrev invariant-loop : tie.invariant-loop-i
 invariant-loop lines₀ tags₀ row at scale initial size given count len₀ i₀ lines tags len i = Lent lines tags len × (i ≤ count)
 
-abbrev decreases-loop : tie.decreases-loop
+abbrev decreases-loop : tie.decreases-loop-i
 decreases-loop lines₀ tags₀ row at scale initial size given count len₀ i₀ lines tags len i = count - i
 
-loop-holds : tie.Need-loop-init invariant-loop decreases-loop
-loop-holds c = (none_lent _ _ c.before.requires.0, search rules)
+loop-holds : tie.Need-loop-i-init invariant-loop decreases-loop
+loop-holds c = (none_lent _ _ c.requires.0, search rules)
 
-put-edges-requires : tie.Need-put-edges-requires invariant-loop decreases-loop
+put-edges-requires : tie.Need-put_edges-len-requires invariant-loop decreases-loop
 put-edges-requires c κs = search rules
 
-loop-again : tie.Need-loop-preserved invariant-loop decreases-loop
-loop-again c = (c.put-edges.ensures, search rules)
+loop-again : tie.Need-loop-i-preserved invariant-loop decreases-loop
+loop-again c = (c.put_edges-len.ensures, search rules)
 
 returns : tie.Need-returns invariant-loop decreases-loop
-returns c = c.before.loop.invariant.0
+returns c = c.loop-i.invariant.0
 
-pub put-stems-spec : {M : Type 1} → statement M
-put-stems-spec =
+pub put_stems_spec : {M : Type 1} → statement M
+put_stems_spec =
     tie.close
     (tie.spec invariant-loop decreases-loop (λ c κs. search rules) loop-holds (λ c. search rules) (λ c. search rules)
     (λ c. search rules) (λ c κs. search rules) (λ c. search rules) (λ c κs. search rules) put-edges-requires

@@ -32,58 +32,58 @@ stored row at n h =
     rw left (set_at (bytes_in row at n) 0 _ (count_in row (at + n) 255) n (bytes-length row at n) ∙
     sym (rw (add-one n, bytes-more row at n, append_assoc)))
 
-abbrev invariant-loop : tie.invariant-loop
+abbrev invariant-loop : tie.invariant-loop-i
 invariant-loop row at n bytes₀ i₀ bytes i =
     (bytes ≡ bytes_in row (at + 1) i ++ replicate (13 - i) 0) × ((i ≤ n) × (length bytes ≡ 13))
 
-abbrev decreases-loop : tie.decreases-loop
+abbrev decreases-loop : tie.decreases-loop-i
 decreases-loop row at n bytes₀ i₀ bytes i = n - i
 
-count-requires : tie.Need-count-requires invariant-loop decreases-loop
+count-requires : tie.Need-count-n-requires invariant-loop decreases-loop
 count-requires c κs = search rules
 
-loop-holds : tie.Need-loop-init invariant-loop decreases-loop
+loop-holds : tie.Need-loop-i-init invariant-loop decreases-loop
 unfolding bytes_in
 loop-holds c = (refl, (search rules, refl))
 
-add-count : tie.Need-overflow-add-count invariant-loop decreases-loop
+add-count : tie.Need-overflow_add-at invariant-loop decreases-loop
 add-count c = search rules
 
-add-count-2 : tie.Need-overflow-add-count-2 invariant-loop decreases-loop
+add-count-2 : tie.Need-overflow_add-at-in-loop-i invariant-loop decreases-loop
 add-count-2 c = search rules
 
-count-requires-2 : tie.Need-count-requires-2 invariant-loop decreases-loop
+count-requires-2 : tie.Need-count-requires invariant-loop decreases-loop
 count-requires-2 c κs = search rules
 
-cast-bytes : tie.Need-overflow-cast-bytes invariant-loop decreases-loop
+cast-bytes : tie.Need-overflow_cast-bytes invariant-loop decreases-loop
 cast-bytes c = search rules
 
-array-write-bytes : tie.Need-array-write-bytes invariant-loop decreases-loop
+array-write-bytes : tie.Need-bounds-bytes-i invariant-loop decreases-loop
 array-write-bytes c = search rules
 
-add-i : tie.Need-overflow-add-i invariant-loop decreases-loop
+add-i : tie.Need-overflow_step-i invariant-loop decreases-loop
 add-i c = search rules
 
-loop-less : tie.Need-loop-smaller invariant-loop decreases-loop
+loop-less : tie.Need-loop-i-smaller invariant-loop decreases-loop
 loop-less c = search rules
 
-loop-again : tie.Need-loop-preserved invariant-loop decreases-loop
+loop-again : tie.Need-loop-i-preserved invariant-loop decreases-loop
 loop-again c =
-    let l = c.before.before in
-    let row = l.before.before.args.row.now in
-    let at = l.before.before.args.at + 1 in
-    let i = l.loop.i in
-    let next = ap (λ (b : List ℕ). set b i c.count2.result) l.loop.invariant.0 ∙
-    ap (set (bytes_in row at i ++ replicate (13 - i) 0) i) c.count2.ensures in
+    let l = c in
+    let row = l.args.row.now in
+    let at = l.args.at + 1 in
+    let i = l.loop-i.i in
+    let next = ap (λ (b : List ℕ). set b i c.count.result) l.loop-i.invariant.0 ∙
+    ap (set (bytes_in row at i ++ replicate (13 - i) 0) i) c.count.ensures in
     (next ∙ stored row at i (search rules), (search rules, search rules))
 
-sub-new : tie.Need-overflow-sub-new invariant-loop decreases-loop
+sub-new : tie.Need-slice_bounds-new-count invariant-loop decreases-loop
 sub-new c = search rules
 
-part-new-start : tie.Need-slice-bounds-new-start invariant-loop decreases-loop
+part-new-start : tie.Need-slice_bounds-new-start invariant-loop decreases-loop
 part-new-start c = search rules
 
-part-new-end : tie.Need-slice-bounds-new-end invariant-loop decreases-loop
+part-new-end : tie.Need-slice_bounds-new-end invariant-loop decreases-loop
 part-new-end c = search rules
 
 new-requires : tie.Need-new-requires invariant-loop decreases-loop
@@ -92,18 +92,18 @@ new-requires c κs = search rules
 returns : tie.Need-returns invariant-loop decreases-loop
 unfolding mask_in
 returns c =
-    let l = c.before.before.before.before in
-    let row = l.before.before.args.row.now in
-    let at = l.before.before.args.at + 1 in
-    let i = l.loop.i in
-    let all : l.before.count.result - 0 ≡ i = omega arith in
-    let end : i ≡ l.before.count.result = omega arith in
-    let taken = ap (take i) l.loop.invariant.0 ∙ take_at (bytes_in row at i) _ i (bytes-length row at i) in
+    let l = c in
+    let row = l.args.row.now in
+    let at = l.args.at + 1 in
+    let i = l.loop-i.i in
+    let all : l.count-n.result - 0 ≡ i = omega arith in
+    let end : i ≡ l.count-n.result = omega arith in
+    let taken = ap (take i) l.loop-i.invariant.0 ∙ take_at (bytes_in row at i) _ i (bytes-length row at i) in
     c.new.ensures ∙ ap mask_of
-    (ap (λ (k : ℕ). take k l.loop.bytes) all ∙ taken ∙ ap (bytes_in row at) (end ∙ l.before.count.ensures))
+    (ap (λ (k : ℕ). take k l.loop-i.bytes) all ∙ taken ∙ ap (bytes_in row at) (end ∙ l.count-n.ensures))
 
-pub mask-spec : {M : Type 1} → statement M
-mask-spec =
+pub mask_spec : {M : Type 1} → statement M
+mask_spec =
     tie.close
     (tie.spec
     invariant-loop

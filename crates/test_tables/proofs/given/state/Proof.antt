@@ -29,18 +29,18 @@ max-requires : tie.Need-max-requires
 max-requires c κs = search rules
 
 new-requires : tie.Need-new-requires
-new-requires c κs = rw c.max.ensures (above c.before.fixed.result)
+new-requires c κs = rw c.max.ensures (above c.fixed.result)
 
 returns : tie.Need-returns
 unfolding state_in
 returns c =
     let m = c.before in
     let f = m.before in
-    let row = f.before.before.args.row.now in
+    let row = f.args.row.now in
     let scale : m.max.result ≡ max_f (fixed_in row 1) (from_bits (pos 1)) = m.max.ensures ∙
     ap (λ (a : Fixed). max_f a (from_bits (pos 1))) f.fixed.ensures in
-    c.new.ensures ∙ ap (λ (p : HintParams). state_of p m.max.result) f.before.params.ensures ∙
+    c.new.ensures ∙ ap (λ (p : HintParams). state_of p m.max.result) f.params.ensures ∙
     ap (state_of (params_in row 7)) scale
 
-pub state-spec : {M : Type 1} → statement M
-state-spec = tie.close (tie.spec params-requires fixed-requires max-requires new-requires returns)
+pub state_spec : {M : Type 1} → statement M
+state_spec = tie.close (tie.spec params-requires fixed-requires max-requires new-requires returns)

@@ -17,8 +17,8 @@ returns : tie.Need-returns
 returns c =
     let n = c.before.before in
     let fits : SFits w32 n.number.result = search rules in
-    c.least.ensures ∙ ap (min n.before.args.most)
-    (c.before.whole.ensures ∙ ap whole_of (to_z-of_z fits ∙ n.number.ensures))
+    c.least.ensures ∙ ap (min n.args.most)
+    (c.whole.ensures ∙ ap whole_of (to_z-of_z fits ∙ n.number.ensures))
 
 pub count_spec : {M : Type 1} → statement M
 count_spec = tie.close (tie.spec number-requires whole-requires least-requires returns)

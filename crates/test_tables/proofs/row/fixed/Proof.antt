@@ -12,5 +12,5 @@ returns c =
     let fits : SFits w32 c.number.result = search rules in
     ap from_bits (to_z-of_z fits ∙ c.number.ensures)
 
-pub fixed-spec : {M : Type 1} → statement M
-fixed-spec = tie.close (tie.spec number-requires returns)
+pub fixed_spec : {M : Type 1} → statement M
+fixed_spec = tie.close (tie.spec number-requires returns)

@@ -15,5 +15,5 @@ returns c =
     same_bits w32 c.number.result (pos 1) fits one ∙
     ap (λ (z : ℤ). same_f (from_bits z) (from_bits (pos 1))) c.number.ensures
 
-pub flag-spec : {M : Type 1} → statement M
-flag-spec = tie.close (tie.spec number-requires returns)
+pub flag_spec : {M : Type 1} → statement M
+flag_spec = tie.close (tie.spec number-requires returns)

@@ -15,20 +15,20 @@ unfolding whole_of
 not-below (pos n) e = (tt, refl)
 not-below (negsuc n) e = absurd (true≢false e)
 
-whole : (c : tie.Else1) → T (non_neg c.before.args.n) × (nat_abs c.before.args.n ≡ whole_of c.before.args.n)
-whole c = not-below c.before.args.n (rw (to_z-of_z c.before.ranges.n) at c.if1.false)
+whole : (c : tie.Else-n-lt0) → T (non_neg c.args.n) × (nat_abs c.args.n ≡ whole_of c.args.n)
+whole c = not-below c.args.n (rw (to_z-of_z c.ranges.n) at c.if-n-lt0.false)
 
-returns : tie.Need-returns
-returns c = below c.before.args.n (rw (to_z-of_z c.before.ranges.n) at c.if1.true)
+returns : tie.Need-returns-then-n-lt0
+returns c = below c.args.n (rw (to_z-of_z c.ranges.n) at c.if-n-lt0.true)
 
-cast-result : tie.Need-overflow-cast-result
+cast-result : tie.Need-overflow_cast-result
 cast-result c =
-    let n = c.before.args.n in
-    let fits = c.before.ranges.n in
+    let n = c.args.n in
+    let fits = c.ranges.n in
     rw (to_z-of_z fits) ((whole c).0, record { fits = omega (arith, nat_abs-le n fits.sfits) })
 
-returns-2 : tie.Need-returns-2
-returns-2 c = rw (to_z-of_z c.before.ranges.n) (whole c).1
+returns-2 : tie.Need-returns
+returns-2 c = rw (to_z-of_z c.ranges.n) (whole c).1
 
-pub whole-spec : {M : Type 1} → statement M
-whole-spec = tie.close (tie.spec returns cast-result returns-2)
+pub whole_spec : {M : Type 1} → statement M
+whole_spec = tie.close (tie.spec returns cast-result returns-2)

@@ -1,7 +1,6 @@
 -- `count_params` counts eight words and two for each pair. Assumes nothing.
 use mathlib.Core.Path.{sym}
 use native.Mathlib.Omega.{arith}
-use lib.ListN.{length-map}
 use borrow.Author.Rules.{rules}
 use Rattle.writer.proofs.Laying.{Sevens, params-length}
 use Rattle.writer.proofs.parts.count_params.Statement.{statement}

@@ -3,7 +3,7 @@ use mathlib.Core.Path.{◌≡◌, sym, ap, ◌∙◌}
 use mathlib.Core.List.{List, [], ◌∷◌}
 use Prim.Native.Nat.{ℕ, ◌+◌, ◌*◌, ◌-◌, ◌≤◌}
 use native.Mathlib.Omega.{arith}
-use lib.ListN.{length, take, get_or, length-map}
+use lib.ListN.{length, take, get_or}
 use lib.Seq.{length-take-le}
 use borrow.Author.Rules.{rules}
 use Rattle.zones.specs.declared.blues.Blue.{Blue}
@@ -34,7 +34,7 @@ module _ (c : tie.At-loop-i invariant-loop decreases-loop) where
   done = take c.loop-i.i begin.args.blues.pairs
 
   seven : length begin.args.blues.pairs ≡ 7
-  seven = begin.good.1.1.0.1.1.0.1.0.1
+  seven = begin.well_formed.1.1.0.1.1.0.1.0.1
 
   many : length (pair_words done) ≡ 2 * c.loop-i.i
   many = omega (arith, pair-words done, length-take-le c.loop-i.i begin.args.blues.pairs (omega (arith, seven)))

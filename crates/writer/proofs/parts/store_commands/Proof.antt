@@ -99,7 +99,7 @@ given-natural-requires c κs = search rules
 cast-store-piece : tie.Need-overflow_cast-start invariant-loop decreases-loop
 cast-store-piece c =
     let s = sound c.before.before in
-    omega (arith, s.true, s.few)
+    omega (arith, s.taken, s.few)
 
 store-piece-requires : tie.Need-store_piece-requires invariant-loop decreases-loop
 store-piece-requires c κs =
@@ -114,7 +114,7 @@ bytes-taken-requires c κs = search rules
 add_start : tie.Need-overflow_add-start invariant-loop decreases-loop
 add_start c =
     let t = c.before.before.before.before.before.before in
-    omega (arith, c.bytes_taken-start.ensures.1, (sound t).true, (sound t).few)
+    omega (arith, c.bytes_taken-start.ensures.1, (sound t).taken, (sound t).few)
 
 add-to : tie.Need-overflow_add-to invariant-loop decreases-loop
 add-to c =
@@ -125,7 +125,7 @@ operands-requires : tie.Need-operands-requires invariant-loop decreases-loop
 operands-requires c κs = search rules
 
 add-to-2 : tie.Need-overflow_add-to-in-loop-at invariant-loop decreases-loop
-add-to-2 c = omega (arith, room (turn c), (begin (turn c)).good, c.operands.ensures.1)
+add-to-2 c = omega (arith, room (turn c), (begin (turn c)).well_formed, c.operands.ensures.1)
 
 add_at : tie.Need-overflow_add-at invariant-loop decreases-loop
 add_at c = search rules
@@ -146,7 +146,7 @@ loop-again c =
     let l = t.loop-at in
     let s = o in
     let g = c.given_operands.ensures.0 ∙ ap given_operands s.given_natural-kind.ensures.0 in
-    let n = turned (words t) (at t) (start t) (there t) (sound t) l.script s.store_piece.new.0
+    let n = turned (words t) (at t) (start t) (there t) (sound t) l.script s.store_piece.new.script
     (laid (begin t).args.script.now (begin t).args.first (command_words (begin t).args.commands.now)) l.to
     o.operands.result c.given_operands.result o.bytes_taken-start.result (operands o) g (taken o)
     s.store_piece.ensures l.invariant.1.1.0 l.invariant.0 in (

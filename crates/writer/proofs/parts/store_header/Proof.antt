@@ -52,10 +52,10 @@ unfolding signed low_bits
 returns c =
     let s = c.before.before.before.before.before.before.before in
     let a = s.args in
-    let e : c.store_words_lem.new.0 ≡ laid a.script.now 0
+    let e : c.store_words.new.bytes ≡ laid a.script.now 0
     (map bits_of (pos 1 ∷ to_z w32 (of_z w32 a.scale.bits) ∷ pos 8 ∷ signed a.params ∷ signed (8 + a.params) ∷
     signed a.commands ∷ signed (8 + a.params + a.commands) ∷ signed a.bytes ∷ [])) =
-    c.store_words_lem.ensures in
+    c.store_words.ensures in
     rw (
       to_z-of_z (fits s),
       signed-bits a.params (omega arith),

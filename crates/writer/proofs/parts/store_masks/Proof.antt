@@ -46,7 +46,7 @@ loop-holds : tie.Need-loop-i-init invariant-loop decreases-loop
 loop-holds c =
     let k = c in
     let b = k in
-    let n : length k.copy_bytes.new.1.0 ≡ length b.args.part.now = k.copy_bytes.auto.1.0 in (
+    let n : length k.copy_bytes.new.out ≡ length b.args.part.now = k.copy_bytes.auto.out in (
       rw (n, k.copy_bytes.ensures) (zeros-behind b.args.part.now b.args.masks.now b.requires),
       (refl, (omega arith, refl)),
     )
@@ -63,7 +63,7 @@ loop-less c = search rules
 loop-again : tie.Need-loop-i-preserved invariant-loop decreases-loop
 loop-again c =
     let l = c in
-    let n = length l.copy_bytes.new.1.0 in
+    let n = length l.copy_bytes.new.out in
     let i = l.loop-i.i in
     let e : n - i ≡ suc (n - (i + 1)) = omega arith in (
       placed-store l.loop-i.part i 0 (zeros (n - (i + 1))) (omega arith) ∙
@@ -78,7 +78,7 @@ same_length c = search rules
 returns : tie.Need-returns invariant-loop decreases-loop
 returns c =
     let l = c in
-    let e : length l.copy_bytes.new.1.0 - l.loop-i.i ≡ 0 = omega arith in
+    let e : length l.copy_bytes.new.out - l.loop-i.i ≡ 0 = omega arith in
     sym (placed-none l.loop-i.part l.loop-i.i) ∙ (rw e at l.loop-i.invariant.0)
 
 pub store_masks_spec : {M : Type 1} → statement M

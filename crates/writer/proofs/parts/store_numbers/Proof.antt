@@ -53,11 +53,11 @@ returns c =
     let s = f.before.before.before.before.before.before.before.before.before.before.before.before.before.before.before.before.before.before.before.before.before in
     let a = s.args in
     let p = a.params in
-    let e : f.store_words_lem.new.0 ≡ laid a.script.now 8
+    let e : f.store_words.new.bytes ≡ laid a.script.now 8
     (map bits_of (to_z w32 (of_z w32 p.blue_scale.bits) ∷ to_z w32 (of_z w32 p.blue_shift.bits) ∷
     to_z w32 (of_z w32 p.blue_fuzz.bits) ∷ to_z w32 (of_z w32 p.language_group) ∷ signed p.blues.count ∷
     signed p.other_blues.count ∷ signed p.family_blues.count ∷ signed p.family_other_blues.count ∷
-    [])) = f.store_words_lem.ensures in
+    [])) = f.store_words.ensures in
     rw (
       to_z-of_z (fits-scale s),
       to_z-of_z (fits-shift s),

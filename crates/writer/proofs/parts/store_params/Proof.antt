@@ -1,7 +1,7 @@
 -- `store_params` lays the numbers and the four lists behind one another. Assumes nothing.
 use Prim.Native.Nat.{◌+◌, ◌*◌, ◌≤◌}
 use native.Mathlib.Omega.{arith}
-use lib.ListN.{length, length-map}
+use lib.ListN.{length}
 use borrow.Author.Rules.{rules}
 use Rattle.zones.specs.declared.state.HintParams.{HintParams}
 use Rattle.writer.proofs.Laying.{Sevens, params-length, params-laid}

@@ -173,7 +173,7 @@ returns-2 : tie.Need-returns
 returns-2 c =
     let o = c.before.before.before.before.before in
     let a = (begin (other o)).args in
-    c.store_words_lem.ensures ∙ ap (laid a.script.now a.to) (sym (whole o))
+    c.store_words.ensures ∙ ap (laid a.script.now a.to) (sym (whole o))
 
 pub store_piece_spec : {M : Type 1} → statement M
 store_piece_spec =

@@ -7,7 +7,6 @@ use Prim.Native.Nat.{◌+◌}
 use native.Mathlib.Omega.{arith}
 use lib.ListN.{get_or, length-map, get_or-eq_default}
 use borrow.Author.Rules.{rules}
-use borrow.Author.Tests.{not-true, not-false}
 use Rattle.fixed.specs.Integers.{bits_of}
 use Rattle.writer.specs.Pieces.{is_mask}
 use Rattle.writer.proofs.Cutting.{mask-takes, others-take}

@@ -137,7 +137,7 @@ returns-3 c =
     let w = c in
     let e = w.before.before.before.before in
     let s = start e in
-    wrote-script (asked s) s.args.script.now w.write_parts.result w.write_parts.new.1.1.1.1.0
+    wrote-script (asked s) s.args.script.now w.write_parts.result w.write_parts.new.script
     (ap Written w.write_parts.ensures.0 ∙ sym (written e)) w.write_parts.ensures.1
 
 pub write_script_spec : {M : Type 1} → statement M

@@ -3,14 +3,11 @@
 use borrow.Author.Rules.{rules}
 use mathlib.Core.Path.{◌≡◌, refl, sym, ap, ◌∙◌}
 use mathlib.Core.Bool.{Bool, cond}
-use mathlib.Core.List.{List}
-use Prim.Native.Nat.{ℕ, ◌+◌, ◌-◌, ◌≤◌}
+use Prim.Native.Nat.{◌+◌, ◌-◌, ◌≤◌}
 use native.Mathlib.Omega.{arith}
-use lib.ListN.{length, take, drop, get_or}
+use lib.ListN.{length, take, drop}
 use Rattle.zones.specs.declared.blues.BlueZone.{BlueZone}
-use Rattle.zones.specs.declared.capture.Held.{Held}
 use Rattle.zones.specs.declared.capture.Held.TheVariants.{By}
-use Rattle.zones.specs.Zones.{no_zone}
 use Rattle.zones.specs.Numbers.{zones_in}
 use Rattle.zones.specs.Capture.{holds, first_holding}
 use Rattle.zones.proofs.Listing.{zones-long, zone-in}

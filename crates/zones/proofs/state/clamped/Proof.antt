@@ -1,6 +1,5 @@
 -- `clamped` meets its contract, by its two tests. Assumes nothing.
 use borrow.Author.Rules.{rules}
-use borrow.Author.Tests.{not-true, not-false}
 use mathlib.Core.Path.{◌≡◌, sym, ◌∙◌}
 use Rattle.fixed.specs.Fixed.{ONE, less_f, div_f}
 use Rattle.zones.specs.State.{clamped_scale}

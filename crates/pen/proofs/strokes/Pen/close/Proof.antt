@@ -54,7 +54,7 @@ flush-requires : tie.Need-flush-requires
 flush-requires c κs = omega (arith, (told c.before).0, room c.before)
 
 slice-set-of-out-2 : tie.Need-slice_set_of-out-2
-slice-set-of-out-2 c = omega (arith, room c.before.before.before, c.flush.auto.1.0)
+slice-set-of-out-2 c = omega (arith, room c.before.before.before, c.flush.auto.out)
 
 same-length-2 : tie.Need-shape_of-out
 same-length-2 c = search rules

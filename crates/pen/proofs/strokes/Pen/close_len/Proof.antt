@@ -2,7 +2,6 @@
 -- a close. Assumes nothing.
 use mathlib.Core.Path.{◌≡◌, sym, ap}
 use mathlib.Core.List.{◌∷◌, [], ◌++◌}
-use mathlib.Core.Logic.{⊎_elim}
 use native.Mathlib.Omega.{arith}
 use lib.IntN.{pos}
 use lib.ListN.{length, length-append}
@@ -11,6 +10,7 @@ use Rattle.pen.specs.Strokes.{flush_words, closing_words}
 use Rattle.pen.proofs.Words.{flushing-short}
 use Rattle.pen.proofs.strokes.Pen.close_len.Statement.{statement}
 use Rattle.pen.proofs.strokes.Pen.close_len.Tie as tie
+use Rattle.pen.proofs.strokes.Pen.close_len.Lts.{in-Line+else-same, in_default-waiting}
 
 -- where nothing waits, or what waits does not lead to the start, a close writes what a flush does,
 -- and a close
@@ -20,7 +20,10 @@ all : (c : tie.Joined-waiting) →
 unfolding closing_words flush_words
 all c =
     rw c.in-At.is
-    (⊎_elim (λ w. rw (w.1.given.1, sym w.3.ensures, w.4.left)) (λ w. rw w.1.given.1) c.match-waiting.branch)
+    (elim c.match-waiting.branch [
+      | in-Line+else-same w ↦ rw (w.in-Line.is, sym w.same.ensures, w.if-same.false)
+      | in_default-waiting w ↦ rw w.in_default-waiting.is
+    ])
 
 enum-known-start : tie.Need-enum_known-start
 enum-known-start c = search rules

@@ -4,7 +4,6 @@ use borrow.Author.Rules.{rules}
 use mathlib.Core.Path.{◌≡◌, refl, sym, ap, ◌∙◌}
 use mathlib.Core.Bool.{Bool, true, false, ◌&&◌, and-true, and-false}
 use mathlib.Core.List.{List}
-use mathlib.Core.Logic.{⊎_elim}
 use Prim.Native.Nat.{ℕ, ◌+◌, ◌-◌, ◌≤◌, ◌<◌}
 use native.Mathlib.Numerals.{add-one}
 use native.Mathlib.Omega.{arith}
@@ -12,7 +11,7 @@ use lib.Dec.{eqb}
 use lib.IntN.{ℤ}
 use lib.ListN.{length, take, drop, get_or, set, length-set, drop_of_length-le}
 use lib.Seq.{take_all, take-suc, take-suc-set, drop-cons, drop-set-lt}
-use borrow.Author.Tests.{eq-eqb, ne_eqb, not-true, not-false}
+use borrow.Author.Tests.{eq-eqb, ne_eqb}
 use Rattle.stems.specs.declared.mask.HintMask.{HintMask}
 use Rattle.stems.specs.Mask.{of_bytes, same_bytes}
 use Rattle.stems.proofs.Masks.{same-is}
@@ -21,6 +20,7 @@ use Rattle.hints.specs.declared.hints.Hints.{Hints}
 use Rattle.hints.specs.Hints.{with_mask, mask_by}
 use Rattle.run.specs.Kept.{Kept}
 use Rattle.run.proofs.kept.Sizes.with_mask.Statement.{statement}
+use Rattle.run.proofs.kept.Sizes.with_mask.Lts.{then-byte-mask, else-byte-mask}
 use Rattle.run.proofs.kept.Sizes.with_mask.Tie as tie
 
 abbrev invariant-loop : tie.invariant-loop-i
@@ -59,9 +59,10 @@ loop-again c =
         simp length-set l.loop-i.invariant.1.0,
         (
           copied g l.loop-i.mask i p q l.loop-i.invariant.1.1.0,
-          ⊎_elim
-              (λ w. rw w.1 (rw (ne_eqb _ _ w.0.true) at e ∙ and-false l.loop-i.same))
-              (λ w. rw w.1 (rw (eq-eqb _ _ w.0.left) at e)) c.if-byte-mask.branch,
+          elim c.if-byte-mask.branch [
+            | then-byte-mask w ↦ rw w.same-is (rw (ne_eqb _ _ w.if-byte-mask.true) at e ∙ and-false l.loop-i.same)
+            | else-byte-mask w ↦ rw w.same-is (rw (eq-eqb _ _ w.if-byte-mask.false) at e)
+          ],
         ),
       ),
     )
@@ -102,7 +103,7 @@ returns : tie.Need-returns-then-not-same invariant-loop decreases-loop
 returns c =
     record {
       twelve = (l c.before).loop-i.invariant.1.0;
-      kept = λ st h ns is ms k. rw (asked c.before false (not-true _ c.if-not-same.true) k)
+      kept = λ st h ns is ms k. rw (asked c.before false c.if-not-same.true k)
           record {
             stems = k.stems;
             mask = all-given c.before;
@@ -119,7 +120,7 @@ returns c =
 
 returns-2 : tie.Need-returns-else-not-same invariant-loop decreases-loop
 returns-2 c =
-    let same = not-false _ c.if-not-same.false in
+    let same = c.if-not-same.false in
     record {
       twelve = (l c.before).loop-i.invariant.1.0;
       kept = λ st h ns is ms k. rw (asked c.before true same k)

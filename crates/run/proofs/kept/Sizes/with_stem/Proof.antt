@@ -9,7 +9,6 @@ use lib.Dec.{ltb}
 use lib.IntN.{ℤ}
 use native.Mathlib.Omega.{arith}
 use borrow.Author.Tests.{lt-ltb, le-ltb}
-use Rattle.stems.specs.declared.edge.StemHint.{StemHint}
 use Rattle.stems.specs.Lists.{stems_in}
 use Rattle.stems.proofs.Places.{stem-put, set_long, stems-long}
 use Rattle.zones.specs.declared.state.HintState.{HintState}

@@ -1,6 +1,5 @@
 -- `Blue::wholly_above` meets its contract, by its two tests. Assumes nothing.
 use mathlib.Core.Path.{sym}
-use borrow.Author.Tests.{not-true, not-false}
 use borrow.Author.Rules.{rules}
 use Rattle.zones.proofs.blues.Blue.wholly_above.Statement.{statement}
 use Rattle.zones.proofs.blues.Blue.wholly_above.Tie as tie

@@ -1,8 +1,7 @@
 -- `BlueZone::by_family` meets its contract, by the two tests. Assumes nothing.
 use mathlib.Core.Path.{◌≡◌, sym, ◌∙◌}
-use mathlib.Core.Logic.{⊎_elim}
 use native.Mathlib.Omega.{arith}
-use lib.ListN.{length, length-map}
+use lib.ListN.{length}
 use Rattle.zones.specs.Zones.{list_of, first_too, moved_flat}
 use Rattle.zones.proofs.Family.{first-none, first_some}
 use borrow.Author.Rules.{rules}

@@ -1,6 +1,5 @@
 -- `BlueZone::holds` meets its contract, by the tests of the zone and of the edge. Assumes nothing.
 use mathlib.Core.Path.{sym}
-use borrow.Author.Tests.{not-true, not-false}
 use Rattle.zones.specs.Capture.{holds}
 use borrow.Author.Rules.{rules}
 use Rattle.zones.proofs.blues.BlueZone.holds.Statement.{statement}

@@ -1,6 +1,5 @@
 -- `BlueZone::within` meets its contract, by its two tests. Assumes nothing.
 use mathlib.Core.Path.{sym}
-use borrow.Author.Tests.{not-true, not-false}
 use borrow.Author.Rules.{rules}
 use Rattle.zones.proofs.blues.BlueZone.within.Statement.{statement}
 use Rattle.zones.proofs.blues.BlueZone.within.Tie as tie

@@ -5,7 +5,7 @@ use mathlib.Core.Path.{◌≡◌, sym, ◌∙◌}
 use Prim.Native.Nat.{◌-◌, ◌≤◌}
 use native.Mathlib.Omega.{arith}
 use borrow.Author.Rules.{rules}
-use lib.ListN.{length, length-map}
+use lib.ListN.{length}
 use Rattle.fixed.proofs.Counts.{take-least}
 use Rattle.zones.specs.Zones.{nearest_of}
 use Rattle.zones.proofs.Family.{search_from, search-goes, search-found, search-ends}

@@ -1,7 +1,6 @@
 -- `Nearest::with` meets its contract, by the two tests. Assumes nothing.
 use mathlib.Core.Path.{◌≡◌, sym, ap, ◌∙◌}
 use mathlib.Core.Bool.{true}
-use borrow.Author.Tests.{not-true, not-false}
 use Rattle.fixed.specs.Fixed.{abs_f, less_f}
 use Rattle.zones.specs.Zones.{distance, nearer}
 use borrow.Author.Rules.{rules}

@@ -4,7 +4,7 @@
 use mathlib.Core.Path.{◌≡◌, refl, sym, ◌∙◌}
 use Prim.Native.Nat.{◌+◌, ◌-◌, ◌≤◌}
 use native.Mathlib.Omega.{arith}
-use lib.ListN.{length, take, drop, get_or, length-map}
+use lib.ListN.{length, take, drop, get_or}
 use borrow.Author.Rules.{rules}
 use Rattle.fixed.specs.Fixed.{ZERO, less_f}
 use Rattle.zones.specs.Zones.{no_blue, height_of, kept_in, read_in}

@@ -1,10 +1,9 @@
 -- `HintState::list` meets its contract. The loop's invariant: the first `i` places hold the zones.
 -- Assumes nothing.
-use borrow.Author.Rules.{rules}
 use mathlib.Core.Path.{◌≡◌, sym, ◌∙◌}
-use Prim.Native.Nat.{ℕ, ◌+◌, ◌-◌, ◌≤◌, ◌<◌}
+use Prim.Native.Nat.{ℕ, ◌-◌, ◌≤◌, ◌<◌}
 use native.Mathlib.Omega.{arith}
-use lib.ListN.{length, get_or, length-map}
+use lib.ListN.{length, get_or}
 use Rattle.stems.proofs.Places.{before-next}
 use Rattle.zones.specs.Zones.{no_zone}
 use Rattle.zones.specs.Numbers.{zone_in}
