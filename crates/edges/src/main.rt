@@ -8,7 +8,12 @@ mod counts;
 mod line;
 mod page;
 
-ghost use Rattle.std.specs.Prelude.{◌≤◌, length};
+ghost use Rattle.std.specs.Prelude.{◌≤◌, length, IfOk};
+
+use std::env::FillError;
+use std::io;
+use std::io::{Read, Write};
+use std::rt::Env;
 
 // The bytes that are read at most, one more than a script can have; those of an argument; and those
 // of the longest page: 96 edges and a summary, under 100 bytes each.
@@ -18,23 +23,39 @@ const ARGUMENT_BYTES: usize = 4096;
 
 const PAGE_BYTES: usize = 16384;
 
-// The page that the argument asks for; how many bytes that is.
-fn asked_page(script: &[u8], out: &mut [u8]) -> usize
+// The page that the argument asks for; how many bytes that is. An argument that has more bytes than
+// there is room for is no number.
+fn asked_page<R: Env>(rt: &R, script: &[u8], out: &mut [u8]) -> usize
     requires { 16384 ≤ length out.old }
     ensures { result ≤ length out.new }
 {
-    if os::arg_count() < 2 {
-        return page::page(script, argument::MOST_COMMANDS, out);
-    }
     let mut text = [0u8; ARGUMENT_BYTES];
-    let len = os::arg(1, &mut text);
-    page::page_for(script, &text[..len], out)
+    match rt.arg(1, &mut text) {
+        Ok(len) => page::page_for(script, &text[..len], out),
+        Err(FillError::TooLong) => page::page_for(script, b"", out),
+        Err(FillError::NotPresent) => page::page(script, argument::MOST_COMMANDS, out),
+    }
 }
 
-fn main() {
+// Reads until the bytes are full or the input ends; how many bytes that is.
+fn read_full<R: Read>(input: &mut R, bytes: &mut [u8]) -> io::Result<usize>
+    ensures { IfOk result (λ n. n ≤ length bytes.new) }
+{
+    let mut done = 0;
+    for _ in 0..u64::MAX {
+        let n = input.read(&mut bytes[done..])?;
+        if n == 0 {
+            break;
+        }
+        done += n;
+    }
+    Ok(done)
+}
+
+fn main(rt: HostRuntime) -> io::Result<()> {
     let mut input = [0u8; INPUT_BYTES];
-    let read = io::read_full(0, &mut input);
+    let read = read_full(&mut rt.stdin(), &mut input)?;
     let mut out = [0u8; PAGE_BYTES];
-    let written = asked_page(&input[..read], &mut out);
-    io::write_all(1, &out[..written]);
+    let written = asked_page(&rt, &input[..read], &mut out);
+    rt.stdout().write_all(&out[..written])
 }

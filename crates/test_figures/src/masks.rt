@@ -5,12 +5,11 @@ use crate::tables;
 use crate::tables::Rows;
 use std::io;
 use std::io::Read;
-use stems::{HintMask, MAX_HINTS, take_first};
+use stems::HintMask;
 
 pub(crate) fn run<R: Read>(rt: &impl Print, input: &mut R) -> io::Result<()> {
     tables::run(rt, input, b"masks", Rows::Masks)?;
-    tables::run(rt, input, b"same masks", Rows::SameMasks)?;
-    tables::run(rt, input, b"active stems", Rows::ActiveStems)
+    tables::run(rt, input, b"same masks", Rows::SameMasks)
 }
 
 // A row: a count and so many bytes, the mask's 12 bytes; a bit, 1 if it is active, and the 12 bytes
@@ -34,20 +33,6 @@ pub(crate) fn same_agrees(row: &[i32]) -> bool {
     let m = test_tables::count(row, 2 + n, 13);
     let same = test_tables::mask(row, 1).same(test_tables::mask(row, 2 + n));
     same == test_tables::flag(row, 3 + n + m)
-}
-
-// A row: a count and so many bytes, how many stems are active, and each of them in order.
-pub(crate) fn stems_agree(row: &[i32]) -> bool {
-    let n = test_tables::count(row, 1, 13);
-    let mask = test_tables::mask(row, 1);
-    let active = test_tables::count(row, 2 + n, MAX_HINTS);
-    let mut left = mask.bytes;
-    for k in 0..active {
-        if take_first(&mut left) != test_tables::count(row, 3 + n + k, 95) {
-            return false;
-        }
-    }
-    take_first(&mut left) == MAX_HINTS
 }
 
 // The mask's bytes are the 12 from `at` on.

@@ -12,46 +12,46 @@ use Rattle.edges.proofs.Digits.{read_first, all_read, read-cut}
 use Rattle.edges.proofs.argument.number_in.Statement.{statement}
 use Rattle.edges.proofs.argument.number_in.Tie as tie
 
-abbrev invariant-loop : tie.invariant-loop
+abbrev invariant-loop : tie.invariant-loop-i
 invariant-loop text number₀ i₀ i-end number i =
     (min (read_on number (drop i text)) 4294967295 ≡ asked_in text) ×
     ((number ≤ 4294967295) × ((i ≤ i-end) × (i-end ≡ length text)))
 
-abbrev decreases-loop : tie.decreases-loop
+abbrev decreases-loop : tie.decreases-loop-i
 decreases-loop text number₀ i₀ i-end number i = i-end - i
 
-loop-holds : tie.Need-loop-init invariant-loop decreases-loop
+loop-holds : tie.Need-loop-i-init invariant-loop decreases-loop
 unfolding asked_in
 loop-holds c = (refl, (omega arith, (omega arith, refl)))
 
-add-least : tie.Need-overflow-add-least invariant-loop decreases-loop
+add-least : tie.Need-overflow_add-number invariant-loop decreases-loop
 add-least c =
     let l = c.before.before.before in
-    omega (arith, c.worth.ensures, c.before.shared-slice-known2.given l.loop.i)
+    omega (arith, c.worth.ensures, c.shared_slice_known-in-loop-i-1.given l.loop-i.i)
 
-loop-again : tie.Need-loop-preserved invariant-loop decreases-loop
+loop-again : tie.Need-loop-i-preserved invariant-loop decreases-loop
 loop-again c =
     let w = c.before in
     let l = w.before.before.before in
-    let ds = l.before.before.args.text.now in
-    let i = l.loop.i in
-    let n = 10 * l.loop.number + (get_or ds i 0 - 48) in
-    let e : c.least.result ≡ min n 4294967295 =
-    c.least.ensures ∙ ap (λ (k : ℕ). min (10 * l.loop.number + k) 4294967295) w.worth.ensures in (
-      read-cut (drop (i + 1) ds) c.least.result n (omega (arith, e)) ∙
-          ap (λ (k : ℕ). min k 4294967295) (sym (read_first ds i (omega arith) l.loop.number)) ∙
-          l.loop.invariant.0,
+    let ds = l.args.text.now in
+    let i = l.loop-i.i in
+    let n = 10 * l.loop-i.number + (get_or ds i 0 - 48) in
+    let e : c.least-number.result ≡ min n 4294967295 =
+    c.least-number.ensures ∙ ap (λ (k : ℕ). min (10 * l.loop-i.number + k) 4294967295) w.worth.ensures in (
+      read-cut (drop (i + 1) ds) c.least-number.result n (omega (arith, e)) ∙
+          ap (λ (k : ℕ). min k 4294967295) (sym (read_first ds i (omega arith) l.loop-i.number)) ∙
+          l.loop-i.invariant.0,
       (omega (arith, e), (omega arith, refl)),
     )
 
 returns : tie.Need-returns invariant-loop decreases-loop
 returns c =
     let l = c.before in
-    let ds = l.before.before.args.text.now in
-    omega (arith, l.loop.invariant.0, l.loop.invariant.1.0, all_read ds l.loop.i l.loop.number (omega arith))
+    let ds = l.args.text.now in
+    omega (arith, l.loop-i.invariant.0, l.loop-i.invariant.1.0, all_read ds l.loop-i.i l.loop-i.number (omega arith))
 
-pub number-in-spec : {M : Type 1} → statement M
-number-in-spec =
+pub number_in_spec : {M : Type 1} → statement M
+number_in_spec =
     tie.close
     (tie.spec invariant-loop decreases-loop loop-holds (λ c. search rules) (λ c. search rules) (λ c κs. search rules) add-least
     (λ c κs. search rules) (λ c. search rules) (λ c. search rules) loop-again returns)
