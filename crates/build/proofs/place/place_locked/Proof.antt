@@ -2,7 +2,7 @@
 -- has come to stem `next`, and whatever initial map is given, the turns that are left, taken from that
 -- stem on, give what all give. The measure is what is left of the count. Assumes nothing.
 use borrow.Author.Rules.{rules}
-use mathlib.Core.Path.{◌≡◌, sym}
+use mathlib.Core.Path.{sym}
 use mathlib.Core.Bool.{Bool, false}
 use Prim.Native.Nat.{◌+◌, ◌-◌, ◌<◌}
 use native.Mathlib.Omega.{arith}
