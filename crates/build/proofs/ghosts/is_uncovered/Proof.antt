@@ -22,7 +22,8 @@ module _ (ls : List ℤ) (ts : List ℕ) (n : ℕ) (s : Fixed) (h : n ≤ 96) wh
   unfolding uncovered
   none z = rw (map-len ls ts n h s, z)
 
-  some : (n ≡ 0 → ⊥) → uncovered (map_in ls ts n s) ≡ (less_f ZERO (height_in ls 0) || less_f (height_in ls (n - 1)) ZERO)
+  some : (n ≡ 0 → ⊥) → uncovered (map_in ls ts n s) ≡ (less_f ZERO (height_in ls 0) || less_f (height_in ls (n - 1))
+      ZERO)
   unfolding uncovered
   some z =
       rw (

@@ -16,13 +16,15 @@ use Rattle.build.proofs.ghosts.put_em_box.Statement.{statement}
 use Rattle.build.proofs.ghosts.put_em_box.Tie as tie
 
 -- the two ghosts inserted one after the other are the box, whatever initial map is given
-boxed : (s : Fixed) (initial : HintMap) (given : Bool) (one two : HintMap) (b t : Hint) → b ≡ em_bottom s → t ≡ em_top s →
+boxed : (s : Fixed) (initial : HintMap) (given : Bool) (one two : HintMap) (b t : Hint) → b ≡ em_bottom s →
+    t ≡ em_top s →
     one ≡ insert_in (new_map s) (One b) initial false → two ≡ insert_in one (One t) initial false →
     two ≡ em_boxed true initial given (new_map s)
 unfolding em_boxed em_bottom em_top
 boxed s initial given one two b t p q r w =
     w ∙ rw (r, p, q)
-    (insert-locked (insert_in (new_map s) (One (em_bottom s)) initial false) (One (em_top s)) initial initial given refl ∙
+    (insert-locked (insert_in (new_map s) (One (em_bottom s)) initial false) (One (em_top s)) initial initial given
+    refl ∙
     ap (λ (m : HintMap). insert_in m (One (em_top s)) initial given)
     (insert-locked (new_map s) (One (em_bottom s)) initial initial given refl))
 

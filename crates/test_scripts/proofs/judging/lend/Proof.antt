@@ -1,6 +1,7 @@
 -- `judging::lend` meets its contract. The loop's invariant: the first `i` words are lent, and
 -- `word` is the next one. Assumes nothing.
-use Rattle.std.proofs.Common.{◌≡◌, ℕ, ◌-◌, ◌≤◌, List, length, set, ℤ, pos, neg_ℤ, refl, ap, ◌∙◌, add-one, arith, to_z-of_z, w32, SFits, rules}
+use Rattle.std.proofs.Common.{◌≡◌, ℕ, ◌-◌, ◌≤◌, List, length, set, ℤ, pos, neg_ℤ, refl, ap, ◌∙◌, add-one, arith}
+use Rattle.std.proofs.Common.{to_z-of_z, w32, SFits, rules}
 use Rattle.fixed.specs.declared.Fixed.{Fixed}
 use Rattle.fixed.specs.Fixed.{from_bits, add_f}
 use Rattle.test_scripts.specs.Judging.{lent_word, lent}
@@ -47,7 +48,8 @@ loop-again c =
       rw (to_z-of_z f, add-one) (ap (λ (o : List ℤ). set o l.i l.word.bits) l.invariant.0 ∙
           ap (λ (w : Fixed). set (lent a.fill l.i a.out.now) l.i w.bits) l.invariant.1.0),
       (
-        rw add-one (c.add-word.ensures ∙ ap (λ (w : Fixed). add_f w (from_bits (neg_ℤ (pos 1640531535)))) l.invariant.1.0),
+        rw add-one (c.add-word.ensures ∙ ap (λ (w : Fixed). add_f w (from_bits (neg_ℤ (pos 1640531535))))
+            l.invariant.1.0),
         search rules,
       ),
     )

@@ -1,6 +1,7 @@
 -- `lend_words` meets its contract. The loop's invariant: the first `i` words are lent, and `bits`
 -- are those of the next one. Assumes nothing.
-use Rattle.std.proofs.Common.{◌≡◌, ◌+◌, ◌-◌, ◌*◌, ◌%◌, ◌^◌, ◌≤◌, length, take, refl, ap, ◌∙◌, arith, length-set, to_z-of_z, w32, SFits, rules}
+use Rattle.std.proofs.Common.{◌≡◌, ◌+◌, ◌-◌, ◌*◌, ◌%◌, ◌^◌, ◌≤◌, length, take, refl, ap, ◌∙◌, arith, length-set}
+use Rattle.std.proofs.Common.{to_z-of_z, w32, SFits, rules}
 use Rattle.fixed.specs.Integers.{signed}
 use Rattle.test_writer.specs.Lending.{filled, lent_word}
 use Rattle.test_writer.proofs.Filling.{filled_more, filled-all}
