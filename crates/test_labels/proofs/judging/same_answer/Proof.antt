@@ -20,7 +20,8 @@ abbrev second : tie.Else-place-natural → tie.Else-glyph-natural
 second c = c.before.before.before
 
 -- the number agrees after the first test, the glyph after the second, the place after the third
-number : (c : tie.Else-code-natural) → eqb (label_number (begin c).args.answer) (raw_at (begin c).args.head.now 5) ≡ true
+number : (c : tie.Else-code-natural) →
+    eqb (label_number (begin c).args.answer) (raw_at (begin c).args.head.now 5) ≡ true
 number c = eq-eqb _ _ (sym c.code.ensures ∙ c.if-code-natural.false ∙ c.natural.ensures.0)
 
 glyph : (c : tie.Else-glyph-natural) →
