@@ -119,8 +119,8 @@ module _ (s : List ℕ) where
 
       by-counts : ScaleFine s → FirstFine 4 ⊎ Over 4 →
           (first_of (param_rows (raw_at s)) ≡ Ok) ⊎ ((a : Answer) × When s out a)
-      by-counts c (inl f) = by-pairs c (λ j l m. f j l (omega arith)) (eqb (raw_at s 3) (8 + 2 * pairs_in (raw_at s)))
-      refl
+      by-counts c (inl f) =
+          by-pairs c (λ j l m. f j l (omega arith)) (eqb (raw_at s 3) (8 + 2 * pairs_in (raw_at s))) refl
       by-counts c (inr o) =
           inr (
             BadBlues o.place,
