@@ -45,7 +45,8 @@ module _ (b : List ℕ) where
     not-looked e = record { answer = sym (by-counts e); memory = sym (ap left_by (by-counts e)) }
 
     pub looked : length lent ≡ 65536 → {n m : ℕ} → n ≡ raw_at b 65 → m ≡ raw_at b 66 → n ≤ 16384 → m ≤ 65536 →
-        {a : WriteAnswer} {left : List ℕ} → Wrote (write_of (asked_by b n m) lent) a left → Wrote (answer_in b lent) a left
+        {a : WriteAnswer} {left : List ℕ} → Wrote (write_of (asked_by b n m) lent) a left → Wrote (answer_in b lent) a
+        left
     unfolding answer_in write_of asked_in
     looked l {n} {m} p q h k w =
         let g : asked_by b n m ≡ asked_in b = rw (p, q) in

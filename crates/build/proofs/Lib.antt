@@ -1,5 +1,6 @@
 pub mod Steps
 pub mod Rounds
+pub mod Walks
 pub mod Hops
 pub mod Locking
 pub mod Turns

@@ -4,7 +4,7 @@ use mathlib.Core.Bool.{Bool, true, false}
 use mathlib.Core.List.{List}
 use Prim.Native.Nat.{ℕ, min}
 use lib.IntN.{ℤ}
-use lib.ListN.{length, take, replicate}
+use lib.ListN.{take, replicate}
 use Rattle.fixed.specs.declared.Fixed.{Fixed}
 use Rattle.fixed.proofs.Counts.{take-least}
 use Rattle.stems.specs.declared.mask.HintMask.{HintMask}
@@ -12,12 +12,12 @@ use Rattle.stems.specs.declared.edge.Hint.{Hint}
 use Rattle.stems.specs.declared.edge.StemHint.{StemHint}
 use Rattle.stems.specs.declared.edge.Stems.{Stems}
 use Rattle.stems.specs.Mask.{of_bytes}
-use Rattle.stems.specs.Lists.{held, stems_in}
+use Rattle.stems.specs.Lists.{stems_in}
 use Rattle.stems.proofs.Places.{stems-long}
 use Rattle.zones.specs.declared.state.HintState.{HintState}
 use Rattle.hintmap.specs.declared.map.HintMap.{HintMap}
-use Rattle.hintmap.specs.Map.{new_map, valid_map, view}
-use Rattle.hintmap.specs.Lent.{map_in, Lent, LinesOf}
+use Rattle.hintmap.specs.Map.{new_map, valid_map}
+use Rattle.hintmap.specs.Lent.{map_in}
 use Rattle.hintmap.proofs.Lent.{view-map}
 use Rattle.adjust.specs.Second.{adjust_of}
 use Rattle.adjust.specs.Adjusted.{Adjusted}

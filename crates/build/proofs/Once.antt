@@ -94,7 +94,8 @@ module _ (top : Bool) (k : ℕ) where
   unfolding tally
   tally-append [] ys = omega arith
   tally-append (x ∷ xs) ys =
-      ap (more_by (bears_by top k x)) (tally-append xs ys) ∙ more-add (bears_by top k x) (tally top k xs) (tally top k ys)
+      ap (more_by (bears_by top k x)) (tally-append xs ys) ∙ more-add (bears_by top k x) (tally top k xs)
+      (tally top k ys)
 
   -- an edge that bears counts, and two count twice
   tally-has : (es : List Hint) (j : ℕ) → j < length es → Bears top k (get_or es j no_hint) → 1 ≤ tally top k es

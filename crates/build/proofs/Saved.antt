@@ -191,7 +191,8 @@ after-used k (e ∷ es) s u = after-used k es (step_by (owned_by k e) e s) (go (
     go true = refl
     go false = u
 
-after_owned : (k : ℕ) (es : List Hint) (s : StemHint) (i : ℕ) → i < length es → owned_by k (get_or es i no_hint) ≡ true →
+after_owned : (k : ℕ) (es : List Hint) (s : StemHint) (i : ℕ) → i < length es →
+    owned_by k (get_or es i no_hint) ≡ true →
     (after k es s).is_used ≡ true
 unfolding after
 after_owned k [] s i h o = absurd (lt_irrefl 0 (omega arith))
@@ -247,7 +248,8 @@ step_keeps : (top : Bool) (k : ℕ) (e : Hint) (s : StemHint) → (Bears top k e
     height_of top (step_by (owned_by k e) e s) ≡ height_of top s
 step_keeps top k e s n = go top (owned_by k e) (is_top e) refl refl n
   where
-    go : (p o t : Bool) → owned_by k e ≡ o → is_top e ≡ t → (Bears p k e → ⊥) → height_of p (step_by o e s) ≡ height_of p s
+    go : (p o t : Bool) → owned_by k e ≡ o → is_top e ≡ t → (Bears p k e → ⊥) → height_of p (step_by o e s) ≡ height_of
+        p s
     go p false t q r m = refl
     go true true true q r m = absurd (m (record { own = own_of k e q; side = r }))
     go false true true q r m = rw r

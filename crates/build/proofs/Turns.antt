@@ -25,7 +25,8 @@ use Rattle.hintmap.specs.Insert.{chosen, first_edge, placed_for, insert_in}
 use Rattle.hintmap.specs.Lent.{LinesOf, PlacedBy}
 use Rattle.hintmap.proofs.Placed.{insert-placed}
 use Rattle.build.specs.Place.{Placed, declared_in, prepared_of, locked_turn, free_turn}
-use Rattle.build.proofs.Rounds.{Round, Left, left-more, left-ends, left-hops}
+use Rattle.build.proofs.Rounds.{Round, Left, left-more, left-ends}
+use Rattle.build.proofs.Walks.{Passing, Rest, rest-more, rest-ends, rest-hops}
 use Rattle.build.proofs.Hops.{Ahead, Hop, hop-first, hop-on}
 use Rattle.build.proofs.Locking.{insert-locked}
 
@@ -36,35 +37,58 @@ module _ {turn : Placed → ℕ → StemHint → Placed} {turns : ℕ → List S
   few : n ≤ length (stems_in ns n).list
   few = omega (arith, stems-long ns n)
 
-  -- stems that are not to be placed are passed over
-  hopped : (q : Placed) {left : HintMask} {from i : ℕ} → Hop left q.rest from i →
-      Left turns (stems_in ns n) n p q from → Left turns (stems_in ns n) n p q i
-  hopped q {from = from} {i = i} h l =
-      let k : from + (i - from) ≡ i = omega (arith, h.on) in
-      rw k at (left-hops r (stems_in ns n) n few p q zero_stem (i - from) from
-      (λ j x f g. r.skips q j x (h.off j f (omega (arith, h.on)))) l)
-
-  -- it starts at the first stem that is to be placed
-  pub round-starts : {left : HintMask} {i : ℕ} → TookFirst p.rest i left → Left turns (stems_in ns n) n p p i
+  -- at first all turns are left
+  pub round-starts : Left turns (stems_in ns n) n p p 0
   unfolding stems_in
-  round-starts t = hopped p (hop-first t) refl
+  round-starts = (refl, omega arith)
 
-  -- a turn changes no other stem, so the walk goes on ..
-  pub round-hops : (q q' : Placed) {left left' : HintMask} {i i' : ℕ} {x : StemHint} → i < n → Ahead left q.rest i →
-      TookFirst left i' left' → turn q i x ≡ q' → Hop left' q'.rest (i + 1) i'
-  round-hops q q' {i = i} {x = x} l a t e = hop-on a (omega arith) t (λ j d. rw (← e) (r.others q i j x d))
+  -- a turn takes the stem at place i
+  pub round-goes : (q q' : Placed) (i : ℕ) → i < n → Left turns (stems_in ns n) n p q i → turn q i (stem_in ns i) ≡ q' →
+      Left turns (stems_in ns n) n p q' (i + 1)
+  round-goes q q' i l h e =
+      left-more r (stems_in ns n) n few p q q' i zero_stem l h (rw (stem-in ns n i zero_stem (omega arith)) e)
 
-  -- .. and with it the round, by the stem at place i
-  pub round-goes : (q q' : Placed) {left : HintMask} {i i' : ℕ} → i < n → Hop left q'.rest (i + 1) i' →
-      turn q i (stem_in ns i) ≡ q' → Left turns (stems_in ns n) n p q i → Left turns (stems_in ns n) n p q' i'
-  round-goes q q' {i = i} l h e g =
-      hopped q' h
-      (left-more r (stems_in ns n) n few p q q' i zero_stem l g (rw (stem-in ns n i zero_stem (omega arith)) e))
-
-  -- behind the last stem nothing is left
+  -- after the last stem nothing is left
   pub round-ends : (q : Placed) (i : ℕ) → n ≤ i → Left turns (stems_in ns n) n p q i →
       q ≡ turns 0 (declared_in (stems_in ns n)) p
   round-ends q i l h = left-ends r (stems_in ns n) n few p q i l h
+
+-- ---- a walk over the stems in a list that are to be placed
+module _ {turn : Placed → ℕ → StemHint → Placed} {turns : ℕ → List StemHint → Placed → Placed} (r : Round turn turns)
+    (s : Passing turn) (ns : List ℤ) (n : ℕ) (fits : n ≤ 96) (p : Placed) where
+  -- each of the stems has its place
+  all-there : n ≤ length (stems_in ns n).list
+  all-there = omega (arith, stems-long ns n)
+
+  -- stems that are not to be placed are passed over
+  hopped : (q : Placed) {left : HintMask} {from i : ℕ} → Hop left q.rest from i →
+      Rest turns (stems_in ns n) n p q from → Rest turns (stems_in ns n) n p q i
+  hopped q {from = from} {i = i} h l =
+      let k : from + (i - from) ≡ i = omega (arith, h.on) in
+      rw k at (rest-hops r (stems_in ns n) n all-there p q zero_stem (i - from) from
+      (λ j x f g. s.skips q j x (h.off j f (omega (arith, h.on)))) l)
+
+  -- a walk starts at the first stem that is to be placed
+  pub walk-starts : {left : HintMask} {i : ℕ} → TookFirst p.rest i left → Rest turns (stems_in ns n) n p p i
+  unfolding stems_in
+  walk-starts t = hopped p (hop-first t) refl
+
+  -- a turn changes no other stem, so the walk goes on ..
+  pub walk-hops : (q q' : Placed) {left left' : HintMask} {i i' : ℕ} {x : StemHint} → i < n → Ahead left q.rest i →
+      TookFirst left i' left' → turn q i x ≡ q' → Hop left' q'.rest (i + 1) i'
+  walk-hops q q' {i = i} {x = x} l a t e = hop-on a (omega arith) t (λ j d. rw (← e) (s.others q i j x d))
+
+  -- .. and with it the round, by the stem at place i
+  pub walk-goes : (q q' : Placed) {left : HintMask} {i i' : ℕ} → i < n → Hop left q'.rest (i + 1) i' →
+      turn q i (stem_in ns i) ≡ q' → Rest turns (stems_in ns n) n p q i → Rest turns (stems_in ns n) n p q' i'
+  walk-goes q q' {i = i} l h e g =
+      hopped q' h
+      (rest-more r (stems_in ns n) n all-there p q q' i zero_stem l g (rw (stem-in ns n i zero_stem (omega arith)) e))
+
+  -- behind the last stem nothing is left
+  pub walk-ends : (q : Placed) (i : ℕ) → n ≤ i → Rest turns (stems_in ns n) n p q i →
+      q ≡ turns 0 (declared_in (stems_in ns n)) p
+  walk-ends q i l h = rest-ends r (stems_in ns n) n all-there p q i l h
 
 -- ---- the turn of stem i
 module _ (st : HintState) (initial : HintMap) (m : HintMap) (rest : HintMask) (i : ℕ) (x : StemHint) where

@@ -9,7 +9,7 @@ use denote.Triple.Clauses.{AtExit}
 use Rattle.stems.specs.declared.mask.HintMask.{HintMask}
 use Rattle.zones.specs.declared.state.HintState.{HintState}
 use Rattle.hintmap.specs.declared.map.HintMap.{HintMap}
-use Rattle.hintmap.specs.Map.{invalid_map, valid_map}
+use Rattle.hintmap.specs.Map.{invalid_map}
 use Rattle.hintmap.specs.Lent.{map_in}
 use Rattle.hintmap.proofs.Lent.{own-lines, map-scale}
 use Rattle.stems.specs.declared.edge.Stems.{Stems}

@@ -12,7 +12,6 @@ use Rattle.hintmap.specs.declared.map.HintMap.{HintMap}
 use Rattle.hintmap.specs.Map.{new_map, valid_map}
 use Rattle.hintmap.specs.Lent.{map_in, Lent, LinesOf}
 pub use Rattle.adjust.specs.Adjusted.{NoteRoom}
-use Rattle.build.specs.declared.map.Built.{Built}
 use Rattle.build.specs.Ghosts.{em_boxed, uncovered, baselined}
 use Rattle.build.specs.Place.{Placed, declared_in, locked_turn, free_turn, locked_turns, free_turns}
 use Rattle.build.specs.Build.{saved_all, initial_of, built_of}

@@ -65,7 +65,8 @@ free_turn st initial p i stem = free_by (is_active p.rest i) st initial p i stem
 -- the stems in order, the first of them number i
 unfoldable pub locked_turns : HintState → HintMap → Bool → ℕ → List StemHint → Placed → Placed
 locked_turns st initial given i [] p = p
-locked_turns st initial given i (x ∷ xs) p = locked_turns st initial given (suc i) xs (locked_turn st initial given p i x)
+locked_turns st initial given i (x ∷ xs) p = locked_turns st initial given (suc i) xs
+    (locked_turn st initial given p i x)
 
 unfoldable pub free_turns : HintState → HintMap → ℕ → List StemHint → Placed → Placed
 free_turns st initial i [] p = p

@@ -80,7 +80,8 @@ module _ (b : ℕ) (w : ℕ → ℕ) (n : ℕ) where
   at-most-from (suc f) i = by (ltb i n) (at-most-from f (next_at w i))
     where
       by : (t : Bool) → length (commands_from f b w n (next_at w i)) ≤ f →
-          length (cond t (record { place = b + i; command = (read_at w n i).command } ∷ commands_from f b w n (next_at w i))
+          length (cond t (record { place = b + i; command = (read_at w n i).command } ∷ commands_from f b w n
+          (next_at w i))
           []) ≤ suc f
       by true h = omega arith
       by false h = omega arith

@@ -59,7 +59,8 @@ pub record CommandAt : Type 0 where
 unfoldable pub commands_from : ℕ → ℕ → (ℕ → ℕ) → ℕ → ℕ → List CommandAt
 commands_from zero b w n i = []
 commands_from (suc f) b w n i =
-    cond (ltb i n) (record { place = b + i; command = (read_at w n i).command } ∷ commands_from f b w n (next_at w i)) []
+    cond (ltb i n) (record { place = b + i; command = (read_at w n i).command } ∷ commands_from f b w n (next_at w i))
+    []
 
 -- the commands in n words, of which there are at most n
 unfoldable pub commands_of : ℕ → (ℕ → ℕ) → ℕ → List CommandAt

@@ -1,6 +1,8 @@
 -- The texts are exact: the digits of a whole number say it, and those behind a point say as many
 -- parts of 10 ^ 16 as the 65536ths are. Assumes nothing.
-use Rattle.std.proofs.Common.{◌≡◌, ℕ, zero, suc, ◌+◌, ◌-◌, ◌*◌, ◌/◌, ◌%◌, ◌^◌, ◌<◌, ◌≤◌, Bool, true, false, cond, eqb, ltb, List, [], ◌∷◌, ◌++◌, sym, refl, ap, ◌∙◌, mul_assoc, add-mul, div-add-mod', zero-mul, mul_right_comm, arith, ltb-true, eqb-true}
+use Rattle.std.proofs.Common.{◌≡◌, ℕ, zero, suc, ◌+◌, ◌-◌, ◌*◌, ◌/◌, ◌%◌, ◌^◌, ◌<◌, ◌≤◌, Bool, true, false, cond, eqb}
+use Rattle.std.proofs.Common.{ltb, List, [], ◌∷◌, ◌++◌, sym, refl, ap, ◌∙◌, mul_assoc, add-mul, div-add-mod', zero-mul}
+use Rattle.std.proofs.Common.{mul_right_comm, arith, ltb-true, eqb-true}
 use native.Mathlib.Nat.{pow-succ'}
 use Rattle.decimal.specs.Decimal.{digits_by, number_text, fraction_by, read_on, read_behind}
 

@@ -1,5 +1,6 @@
 -- The room that texts take: ten bytes for a whole number, 23 for one in 16.16. Assumes nothing.
-use Rattle.std.proofs.Common.{ℕ, zero, suc, ◌+◌, ◌*◌, ◌/◌, ◌%◌, ◌^◌, ◌<◌, ◌≤◌, Bool, true, false, cond, eqb, ltb, List, [], ◌∷◌, length, ℤ, pos, negsuc, arith, length-append, w32, SFits, lt-ltb}
+use Rattle.std.proofs.Common.{ℕ, zero, suc, ◌+◌, ◌*◌, ◌/◌, ◌%◌, ◌^◌, ◌<◌, ◌≤◌, Bool, true, false, cond, eqb, ltb, List}
+use Rattle.std.proofs.Common.{[], ◌∷◌, length, ℤ, pos, negsuc, arith, length-append, w32, SFits, lt-ltb}
 use Rattle.decimal.specs.Decimal.{digits_by, number_text, fraction_by, size_text, decimal_text}
 
 -- none or some are no more than those

@@ -1,6 +1,7 @@
 -- The page that the program writes for people: a line an edge of a script's map and one that counts
 -- them, or one that says why there is none. Texts are in ASCII.
-use Rattle.std.specs.Prelude.{Bool, true, false, cond, not, ◌&&◌, List, [], ◌∷◌, ◌++◌, ℕ, ◌%◌, min, ltb, leb, eqb, length}
+use Rattle.std.specs.Prelude.{Bool, true, false, cond, not, ◌&&◌, List, [], ◌∷◌, ◌++◌, ℕ, ◌%◌, min, ltb, leb, eqb}
+use Rattle.std.specs.Prelude.{length}
 use Rattle.stems.specs.declared.edge.Kind.{Kind}
 use Rattle.stems.specs.declared.edge.Kind.TheVariants.{Absent, GhostBottom, GhostTop, PairBottom, PairTop}
 use Rattle.hintmap.specs.declared.map.HintMap.{HintMap}
@@ -93,7 +94,8 @@ place_text = 44 ∷ 32 ∷ 112 ∷ 108 ∷ 97 ∷ 99 ∷ 101 ∷ 32 ∷ []
 -- "refused: number N, place P", the place by its low 32 bits
 unfoldable pub refusal_line : Answer → List ℕ
 refusal_line a =
-    (refused_text ++ number_text (number_of a)) ++ ((place_text ++ number_text (place_of a % 4294967296)) ++ end_text false)
+    (refused_text ++ number_text (number_of a)) ++ ((place_text ++ number_text (place_of a % 4294967296)) ++ end_text
+    false)
 
 -- ---- the page
 -- the edges of a map, and their counts

@@ -1,6 +1,9 @@
 -- The machine's bits of a signed number, for every width w: its low k bits and their clearing are
 -- `low_bits k` and `clear_low k`, and a number that 32 bits hold does not wrap. Assumes nothing.
-use Rattle.std.proofs.Common.{◌≡◌, ℕ, suc, ◌+◌, ◌-◌, ◌*◌, ◌/◌, ◌%◌, ◌^◌, ◌<◌, Bool, true, false, ltb, ℤ, pos, negsuc, ◌+ℤ◌, ◌-ℤ◌, sym, refl, ap, ◌∙◌, mul-le-mul_right, mod-lt, mod-eq_of_lt, suc-mul, add-mul, arith, pow_pos, pow-add, shr_lt, to_z-of_z, w32, w64, SFits, to_z, of_z, ltb-false, ltb-true}
+use Rattle.std.proofs.Common.{◌≡◌, ℕ, suc, ◌+◌, ◌-◌, ◌*◌, ◌/◌, ◌%◌, ◌^◌, ◌<◌, Bool, true, false, ltb, ℤ, pos, negsuc}
+use Rattle.std.proofs.Common.{◌+ℤ◌, ◌-ℤ◌, sym, refl, ap, ◌∙◌, mul-le-mul_right, mod-lt, mod-eq_of_lt, suc-mul, add-mul}
+use Rattle.std.proofs.Common.{arith, pow_pos, pow-add, shr_lt, to_z-of_z, w32, w64, SFits, to_z, of_z, ltb-false}
+use Rattle.std.proofs.Common.{ltb-true}
 use native.Mathlib.Nat.{mod-le, add-mod}
 use native.Mathlib.Nat.{add-mul-mod_self_right}
 use lib.Arith.{digits_mod}

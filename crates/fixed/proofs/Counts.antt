@@ -1,5 +1,6 @@
 -- A count that is cut to the room of a list counts the same elements. Assumes nothing.
-use Rattle.std.proofs.Common.{◌≡◌, ℕ, min, Bool, true, false, ltb, List, length, take, sym, refl, ◌∙◌, arith, take_all, ltb-false, ltb-true}
+use Rattle.std.proofs.Common.{◌≡◌, ℕ, min, Bool, true, false, ltb, List, length, take, sym, refl, ◌∙◌, arith, take_all}
+use Rattle.std.proofs.Common.{ltb-false, ltb-true}
 
 pub take-least : {A : Type 0} (n k : ℕ) (xs : List A) → length xs ≡ k → take (min n k) xs ≡ take n xs
 take-least n k xs e = go (ltb n k) refl

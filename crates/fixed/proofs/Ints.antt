@@ -2,7 +2,9 @@
 -- order, an equation or a width of integers, among the hypotheses and as the goal, as one of those
 -- naturals. A sum, a difference or a wrapped number in it is given by its law, in the list. Assumes
 -- nothing.
-use Rattle.std.proofs.Common.{◌≡◌, ℕ, zero, suc, pred, ◌+◌, ◌-◌, ◌^◌, ◌<◌, ◌≤◌, min, max, Bool, true, false, cond, not, T, ltb, ℤ, pos, negsuc, ◌+ℤ◌, ◌-ℤ◌, neg_ℤ, ◌≤ℤ◌, ◌<ℤ◌, sym, refl, ap, subst, arith, ltb→lt, leb→le, nltb→le, w32, w64, SFits, ltb-false, ltb-true}
+use Rattle.std.proofs.Common.{◌≡◌, ℕ, zero, suc, pred, ◌+◌, ◌-◌, ◌^◌, ◌<◌, ◌≤◌, min, max, Bool, true, false, cond, not}
+use Rattle.std.proofs.Common.{T, ltb, ℤ, pos, negsuc, ◌+ℤ◌, ◌-ℤ◌, neg_ℤ, ◌≤ℤ◌, ◌<ℤ◌, sym, refl, ap, subst, arith}
+use Rattle.std.proofs.Common.{ltb→lt, leb→le, nltb→le, w32, w64, SFits, ltb-false, ltb-true}
 use lib.Dec.{nleb→lt}
 use lib.IntN.{sub_ℕ}
 use lib.Signed.{lt_z, le_z}

@@ -1,5 +1,6 @@
 -- Laws of the arithmetic, for the parts above. Assumes nothing.
-use Rattle.std.proofs.Common.{◌≡◌, ℕ, suc, ◌+◌, ◌-◌, ◌*◌, ◌/◌, ◌%◌, ◌^◌, ℤ, pos, negsuc, ◌+ℤ◌, ◌-ℤ◌, ◌≤ℤ◌, ◌<ℤ◌, ap, ◌∙◌, mod-lt, arith, pow_pos, w32, SFits}
+use Rattle.std.proofs.Common.{◌≡◌, ℕ, suc, ◌+◌, ◌-◌, ◌*◌, ◌/◌, ◌%◌, ◌^◌, ℤ, pos, negsuc, ◌+ℤ◌, ◌-ℤ◌, ◌≤ℤ◌, ◌<ℤ◌, ap}
+use Rattle.std.proofs.Common.{◌∙◌, mod-lt, arith, pow_pos, w32, SFits}
 use native.Mathlib.Nat.{mul-mod_left}
 use lib.Arith.{digits_mod}
 use lib.Pow.{ones_lt, split}

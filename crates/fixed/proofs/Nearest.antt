@@ -1,6 +1,8 @@
 -- Sizes, products and rounded quotients, as the code comes to them: by the sign that it tests.
 -- Assumes nothing.
-use Rattle.std.proofs.Common.{◌≡◌, ℕ, zero, suc, ◌+◌, ◌*◌, ◌/◌, ◌^◌, ◌<◌, ◌≤◌, true, false, ltb, ℤ, pos, negsuc, ◌+ℤ◌, ◌-ℤ◌, ◌*ℤ◌, neg_ℤ, nat_abs, ◌<ℤ◌, sym, refl, ap, ◌∙◌, true≢false, mul-le-mul, arith, w32, w64, SFits, of_z, ltb-true}
+use Rattle.std.proofs.Common.{◌≡◌, ℕ, zero, suc, ◌+◌, ◌*◌, ◌/◌, ◌^◌, ◌<◌, ◌≤◌, true, false, ltb, ℤ, pos, negsuc, ◌+ℤ◌}
+use Rattle.std.proofs.Common.{◌-ℤ◌, ◌*ℤ◌, neg_ℤ, nat_abs, ◌<ℤ◌, sym, refl, ap, ◌∙◌, true≢false, mul-le-mul, arith, w32}
+use Rattle.std.proofs.Common.{w64, SFits, of_z, ltb-true}
 use native.Mathlib.Nat.{div-div-eq-div-mul, zero-div}
 use lib.Signed.{lt_z, quot_z, nat_abs-le}
 use Rattle.fixed.specs.Integers.{nearest, wrap32}

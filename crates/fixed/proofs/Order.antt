@@ -1,7 +1,8 @@
 -- The order of 16.16 numbers. `omega heights` reads, as a hypothesis and as the goal: `a.bits ≤ℤ b
 -- .bits`, `<ℤ`, an equation of two numbers, and a test (`less_f a b`, `at_most_f a b`) that came out
 -- true or false. A sum or a difference in it is given by its law. Assumes nothing.
-use Rattle.std.proofs.Common.{◌≡◌, ◌+◌, Bool, true, false, ◌&&◌, eqb, ◌⊎◌, ℤ, ◌≤ℤ◌, ◌<ℤ◌, sym, refl, ap, ◌∙◌, inl, inr, true≢false, to_z-of_z, SFits, to_z, of_z, eqb-true}
+use Rattle.std.proofs.Common.{◌≡◌, ◌+◌, Bool, true, false, ◌&&◌, eqb, ◌⊎◌, ℤ, ◌≤ℤ◌, ◌<ℤ◌, sym, refl, ap, ◌∙◌, inl, inr}
+use Rattle.std.proofs.Common.{true≢false, to_z-of_z, SFits, to_z, of_z, eqb-true}
 use lib.Signed.{le_z}
 use borrow.Author.Tests.{eqb-false}
 use mir.Syntax.{Width}

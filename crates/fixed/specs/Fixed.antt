@@ -1,6 +1,7 @@
 -- Numbers in 16.16 (01, "Numbers in 16.16"), in its order. The code's `add` is `add_f` here, and so
 -- for each: an exact whole number, rounded as 01 says, of which `wrap_f` keeps the low 32 bits.
-use Rattle.std.specs.Prelude.{zero, suc, ◌-◌, ◌^◌, Bool, cond, ◌&&◌, ℤ, pos, negsuc, ◌+ℤ◌, ◌-ℤ◌, ◌*ℤ◌, neg_ℤ, int_div, int_le, int_lt, unsigned_abs}
+use Rattle.std.specs.Prelude.{zero, suc, ◌-◌, ◌^◌, Bool, cond, ◌&&◌, ℤ, pos, negsuc, ◌+ℤ◌, ◌-ℤ◌, ◌*ℤ◌, neg_ℤ, int_div}
+use Rattle.std.specs.Prelude.{int_le, int_lt, unsigned_abs}
 use Rattle.fixed.specs.declared.Fixed.{Fixed}
 use Rattle.fixed.specs.Integers.{low_bits, clear_low, wrap32, nearest}
 

@@ -26,7 +26,8 @@ pub pass : {rs : List (Row Answer)} (k : ℕ) → Past rs k → (row_at Ok rs k)
 pass {rs} k p e = record { rest = p.rest ∙ skip Ok rs k e }
 
 -- and the next one does
-pub stop : {rs : List (Row Answer)} (k : ℕ) → Past rs k → (row_at Ok rs k).fault ≡ true → (row_at Ok rs k).said ≡ first_of rs
+pub stop : {rs : List (Row Answer)} (k : ℕ) → Past rs k → (row_at Ok rs k).fault ≡ true → (row_at Ok rs k).said ≡
+    first_of rs
 stop {rs} k p e = sym (p.rest ∙ hit Ok rs k e)
 
 -- ---- tests that all refuse, by computation

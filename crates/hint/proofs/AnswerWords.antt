@@ -16,7 +16,8 @@ use Rattle.hint.specs.Encode.{answer_words, result_in, Answered}
 
 -- number and place are the whole answer where it refuses, and the result is behind them where it
 -- does not
-pub refused-words : (a : Answer) (result : List ℤ) → 0 < number_of a → answer_words a result ≡ number_of a ∷ place_of a ∷ []
+pub refused-words : (a : Answer) (result : List ℤ) → 0 < number_of a → answer_words a result ≡ number_of a ∷ place_of a
+    ∷ []
 unfolding answer_words
 refused-words a result h = rw (ne_eqb (number_of a) 0 (omega arith))
 

@@ -85,7 +85,8 @@ pub data Serves (es : List Hint) (h : Fixed) : Type 0 where
 
 module _ (e : Hint) (es : List Hint) (h : Fixed) where
   -- what holds past the first edge holds past it one place on
-  later : (k : ℕ) → ((j : ℕ) → k ≤ j → j < length es → h.bits <ℤ (height (get_or es j no_hint)).bits) → (j : ℕ) → k < j →
+  later : (k : ℕ) → ((j : ℕ) → k ≤ j → j < length es → h.bits <ℤ (height (get_or es j no_hint)).bits) → (j : ℕ) →
+      k < j →
       j < length (e ∷ es) → h.bits <ℤ (height (get_or (e ∷ es) j no_hint)).bits
   later k a zero p r = absurd (omega arith)
   later k a (suc j) p r = a j (omega arith) (omega arith)

@@ -43,7 +43,8 @@ clear-top b t [] c l = absurd (omega arith)
 clear-top b t (x ∷ xs) c l =
     let o = is_pair_top x || at_most_f (height x) (height t) in
     let p = (both_false (same_f (height x) (height b)) o (not-true (same_f (height x) (height b) || o) c)).1 in
-    let q : at_most_f (height x) (height t) ≡ false = (both_false (is_pair_top x) (at_most_f (height x) (height t)) p).1 in
+    let q : at_most_f (height x) (height t) ≡ false = (both_false (is_pair_top x) (at_most_f (height x) (height t)) p).1
+    in
     let r : (height t).bits ≤ℤ (height x).bits = omega heights in
     r
 

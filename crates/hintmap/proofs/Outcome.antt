@@ -13,7 +13,8 @@ use Rattle.hintmap.specs.declared.insert.Edges.TheVariants.{One, Two}
 use Rattle.hintmap.specs.declared.insert.Outcome.{Outcome}
 use Rattle.hintmap.specs.declared.insert.Outcome.TheVariants as outcome
 use Rattle.hintmap.specs.Map.{view}
-use Rattle.hintmap.specs.Insert.{first_edge, edges_of, may_enter, again, placed_by, char_clear, below_clear, above_clear}
+use Rattle.hintmap.specs.Insert.{first_edge, edges_of, may_enter, again, placed_by, char_clear, below_clear}
+use Rattle.hintmap.specs.Insert.{above_clear}
 use Rattle.hintmap.specs.Insert.{put_edges, place_for, placed_for, only_if, outcome_of, insert_by, insert_in}
 use Rattle.hintmap.specs.WholeStems.{Alike, nil, cons}
 use Rattle.hintmap.proofs.Alike.{like-device, alike_refl}

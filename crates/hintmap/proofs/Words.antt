@@ -17,7 +17,8 @@ use Rattle.hintmap.specs.WholeStems.{height, Single, Pair, Past, WholeStems, non
 
 -- ---- heights never fall
 -- an edge before others, no higher than the first of them
-pub cons-ascends : (x : Hint) (xs : List Hint) → (0 < length xs → (height x).bits ≤ℤ (height (get_or xs 0 no_hint)).bits) →
+pub cons-ascends : (x : Hint) (xs : List Hint) → (0 < length xs → (height x).bits ≤ℤ
+    (height (get_or xs 0 no_hint)).bits) →
     Ascends xs → Ascends (x ∷ xs)
 cons-ascends x xs f s zero zero l k = omega heights
 cons-ascends x xs f s zero (suc j) l k =

@@ -1,5 +1,6 @@
 -- What the edge map is, over the list of its edges (01, "The map").
-use Rattle.std.specs.Prelude.{Bool, true, false, not, cond, List, [], ◌∷◌, ◌++◌, ℕ, zero, suc, ◌+◌, length, take, drop, get_or, replicate}
+use Rattle.std.specs.Prelude.{Bool, true, false, not, cond, List, [], ◌∷◌, ◌++◌, ℕ, zero, suc, ◌+◌, length, take, drop}
+use Rattle.std.specs.Prelude.{get_or, replicate}
 use Rattle.fixed.specs.declared.Fixed.{Fixed}
 use Rattle.fixed.specs.Fixed.{add_f, sub_f, mul_f, less_f, at_most_f}
 use Rattle.stems.specs.declared.edge.Hint.{Hint}

@@ -44,7 +44,8 @@ Made (Two b t) = Pair b t
 
 -- the edges stand in never-falling character height
 abbrev pub Ascends : List Hint → Type 0
-Ascends es = (i j : ℕ) → i ≤ j → j < length es → (height (get_or es i no_hint)).bits ≤ℤ (height (get_or es j no_hint)).bits
+Ascends es = (i j : ℕ) → i ≤ j → j < length es → (height (get_or es i no_hint)).bits ≤ℤ
+    (height (get_or es j no_hint)).bits
 
 -- k is the place of the last edge at or below h
 pub record Last (es : List Hint) (h : Fixed) (k : ℕ) : Type 0 where

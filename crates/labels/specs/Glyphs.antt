@@ -1,6 +1,7 @@
 -- The glyphs of a label run (request 5): command words and mask bytes, each end to end in one list,
 -- and a list of two lengths a glyph, words and bytes.
-use Rattle.std.specs.Prelude.{Bool, true, false, ◌||◌, not, List, [], ◌∷◌, ℕ, ◌+◌, ◌%◌, eqb, ltb, ℤ, pos, negsuc, length, take, drop}
+use Rattle.std.specs.Prelude.{Bool, true, false, ◌||◌, not, List, [], ◌∷◌, ℕ, ◌+◌, ◌%◌, eqb, ltb, ℤ, pos, negsuc}
+use Rattle.std.specs.Prelude.{length, take, drop}
 use Rattle.fixed.specs.Integers.{bits_of}
 use Rattle.zones.specs.declared.state.HintState.{HintState}
 use Rattle.hints.specs.Calls.{new_drawing}
@@ -24,7 +25,8 @@ unfoldable pub glyphs_of : List ℤ → List ℤ → List ℕ → List Glyph
 glyphs_of [] words masks = []
 glyphs_of (n ∷ []) words masks = []
 glyphs_of (n ∷ b ∷ ls) words masks =
-    glyph (take (bits_of n) words) (take (bits_of b) masks) ∷ glyphs_of ls (drop (bits_of n) words) (drop (bits_of b) masks)
+    glyph (take (bits_of n) words) (take (bits_of b) masks) ∷ glyphs_of ls (drop (bits_of n) words)
+    (drop (bits_of b) masks)
 
 -- ---- RUN_COUNT
 abbrev pub below0 : ℤ → Bool

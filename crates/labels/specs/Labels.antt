@@ -1,6 +1,7 @@
 -- A label run (request 5): up to 64 glyphs under one set of parameters, and one result. Refusals in
 -- their order, with no word changed; or the result at the start of the output, whose rest stands.
-use Rattle.std.specs.Prelude.{◌≡◌, Bool, true, false, not, List, [], ◌∷◌, ◌++◌, map, ℕ, min, ◌+◌, ◌*◌, ltb, ℤ, pos, length}
+use Rattle.std.specs.Prelude.{◌≡◌, Bool, true, false, not, List, [], ◌∷◌, ◌++◌, map, ℕ, min, ◌+◌, ◌*◌, ltb, ℤ, pos}
+use Rattle.std.specs.Prelude.{length}
 use Rattle.fixed.specs.declared.Fixed.{Fixed}
 use Rattle.fixed.specs.Fixed.{from_bits, less_f}
 use Rattle.zones.specs.declared.state.HintParams.{HintParams}

@@ -1,6 +1,7 @@
 -- What is known of a label before a word is written (request 5): the first fault of each glyph, and
 -- how many words its records have.
-use Rattle.std.specs.Prelude.{◌≡◌, Bool, true, false, cond, List, [], ◌∷◌, ◌++◌, map, ℕ, ◌+◌, ◌≤◌, ◌<◌, ltb, ℤ, pos, length}
+use Rattle.std.specs.Prelude.{◌≡◌, Bool, true, false, cond, List, [], ◌∷◌, ◌++◌, map, ℕ, ◌+◌, ◌≤◌, ◌<◌, ltb, ℤ, pos}
+use Rattle.std.specs.Prelude.{length}
 use Rattle.zones.specs.declared.state.HintState.{HintState}
 use Rattle.pen.specs.Counting.{new_trail}
 use Rattle.words.specs.declared.answer.Answer.TheVariants.{Ok}
@@ -72,4 +73,5 @@ pub record Fillable (ls words : List ℤ) (masks : List ℕ) (room : ℕ) : Type
   pub counted : miscounted ls (length words) (length masks) ≡ false
   pub faultless : Faultless (glyphs_of ls words masks)
   pub fits : sum_from (header_of (length (glyphs_of ls words masks))) (map size_of (glyphs_of ls words masks)) ≤ room
-  pub word : sum_from (header_of (length (glyphs_of ls words masks))) (map size_of (glyphs_of ls words masks)) < 2147483648
+  pub word : sum_from (header_of (length (glyphs_of ls words masks))) (map size_of (glyphs_of ls words masks)) <
+      2147483648

@@ -14,7 +14,8 @@ use Rattle.hintmap.specs.declared.map.HintMap.{HintMap}
 use Rattle.hintmap.specs.Map.{view}
 use Rattle.listing.specs.declared.record.EdgeRecord.{EdgeRecord}
 use Rattle.listing.specs.declared.record.Counted.TheVariants.{Pairs, Ghosts, Locked}
-use Rattle.listing.specs.Records.{record_of, record_at, edge_records, records_of, counts, count_of, summary_of, no_summary}
+use Rattle.listing.specs.Records.{record_of, record_at, edge_records, records_of, counts, count_of, summary_of}
+use Rattle.listing.specs.Records.{no_summary}
 
 count-append : (f : EdgeRecord → Bool) (rs ss : List EdgeRecord) → count_of f (rs ++ ss) ≡ count_of f rs + count_of f ss
 unfolding count_of

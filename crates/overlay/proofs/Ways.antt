@@ -15,7 +15,8 @@ use Rattle.overlay.specs.declared.answer.SeenAnswer.TheVariants.{Refused}
 use Rattle.overlay.specs.Seen.{seen_as, seen_of, Sees}
 
 module _ (s : List ℕ) (k : ℕ) (list : List ℤ) where
-  pub by-fault : refuses (first_of (check_rows s)) ≡ true → Sees (seen_of s k list) (Refused (first_of (check_rows s))) list
+  pub by-fault : refuses (first_of (check_rows s)) ≡ true → Sees (seen_of s k list) (Refused (first_of (check_rows s)))
+      list
   unfolding seen_of
   by-fault e = rw e (record { answer = refl; memory = refl })
 

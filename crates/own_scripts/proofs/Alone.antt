@@ -26,19 +26,22 @@ use Rattle.commands.specs.Faults.{command_rows}
 use Rattle.run.specs.Room.{Fitted, words_along}
 use Rattle.run.specs.Run.{Asked, calls_of, steps_of}
 use Rattle.run.proofs.Rooms.{fits_whole}
-use Rattle.script.specs.Script.{commands_in, calls_in, check_rows, zones_of, steps_in, result_words, result_by, ended_by}
+use Rattle.script.specs.Script.{commands_in, calls_in, check_rows, zones_of, steps_in, result_words, result_by}
+use Rattle.script.specs.Script.{ended_by}
 use Rattle.script.specs.Script.{script_of}
 use Rattle.writer.specs.ToWrite.{padded_bytes}
 use Rattle.labels.specs.declared.label_answer.LabelAnswer.TheVariants.{Written}
 use Rattle.labels.specs.Answers.{label_refuses}
 use Rattle.labels.specs.Glyphs.{Glyph, glyph, fault_of, records_of}
 use Rattle.labels.specs.Glyphs as glyphs
-use Rattle.labels.specs.Labels.{Label, glyphs_in, records_in, joined, header_of, label_words, open_rows, output_by, labels_of}
+use Rattle.labels.specs.Labels.{Label, glyphs_in, records_in, joined, header_of, label_words, open_rows, output_by}
+use Rattle.labels.specs.Labels.{labels_of}
 use Rattle.round_trips.specs.RoundTrips.{Held, HeldParams, kept_params}
 use Rattle.round_trips.proofs.WordBytes.{bits_small}
 use Rattle.round_trips.proofs.Commands.{holds_at}
 use Rattle.round_trips.proofs.Parameters.{sevens}
-use Rattle.round_trips.proofs.LaidOut.{Contents, contents, param_count, word_count, zeros_behind, words_with, script_with}
+use Rattle.round_trips.proofs.LaidOut.{Contents, contents, param_count, word_count, zeros_behind, words_with}
+use Rattle.round_trips.proofs.LaidOut.{script_with}
 use Rattle.round_trips.proofs.LaidOut.{Holdable, laid_out, commands-read, masks-there}
 use Rattle.round_trips.proofs.Passing.{scale-said, params-said, commands-said, by-commands}
 use Rattle.own_scripts.specs.OwnScripts.{own_words, own_script, most_bytes, HeldLabel, glyph_at, records_at}
@@ -152,7 +155,8 @@ module _ (scale : Fixed) (p : HintParams) (g : Glyph) (held : Held scale) (param
 -- ---- the laws
 -- a glyph's first fault is that of its own script
 pub fault-alone : (scale : Fixed) (p : HintParams) (g : Glyph) → Held scale → HeldParams p →
-    first_or (Written 0) (open_rows scale p) ≡ Written 0 → length (own_script scale p g) ≤ most_bytes → FaultAlone scale p g
+    first_or (Written 0) (open_rows scale p) ≡ Written 0 → length (own_script scale p g) ≤ most_bytes → FaultAlone scale
+    p g
 fault-alone scale p g held params o short =
     rw (own_is scale p g) (fault-own scale p g held params (opened scale p o) short)
 

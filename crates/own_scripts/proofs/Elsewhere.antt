@@ -63,9 +63,11 @@ module _ (v w : ℕ → ℕ) (n : ℕ) (alike : (j : ℕ) → j < n → v j ≡ 
       where
         by : (t : Bool) → ltb i n ≡ t →
             commands_from f b v n (next_at w i) ≡ map (command_behind b) (commands_from f 0 w n (next_at w i)) →
-            cond t (record { place = b + i; command = (read_at v n i).command } ∷ commands_from f b v n (next_at v i)) [] ≡
+            cond t (record { place = b + i; command = (read_at v n i).command } ∷ commands_from f b v n (next_at v i))
+            [] ≡
             map (command_behind b)
-            (cond t (record { place = 0 + i; command = (read_at w n i).command } ∷ commands_from f 0 w n (next_at w i)) [])
+            (cond t (record { place = 0 + i; command = (read_at w n i).command } ∷ commands_from f 0 w n (next_at w i))
+            [])
         by true e again =
             let h = ltb-true i n e in
             let z : 0 + i ≡ i = omega arith in

@@ -17,7 +17,8 @@ use Rattle.zones.specs.declared.blues.Nearest.{Nearest}
 use Rattle.zones.specs.declared.state.HintParams.{HintParams}
 use Rattle.zones.specs.Zones.{max_blues, no_blue, list_of, wholly_below, wholly_above, kept, nearest_of, family_nearest}
 use Rattle.zones.specs.Zones.{with_flat, moved_flat, device_flat}
-use Rattle.zones.specs.State.{icf_bottom, icf_top, is_one, em_box, suppresses, boost_of, kept_of, blue_scale_of, finished}
+use Rattle.zones.specs.State.{icf_bottom, icf_top, is_one, em_box, suppresses, boost_of, kept_of, blue_scale_of}
+use Rattle.zones.specs.State.{finished}
 use Rattle.zones.specs.State.{state_with, state_by, state_of}
 use Rattle.writer.specs.Refusals.{FineParams}
 use Rattle.writer.proofs.Laying.{Sevens, list_length}

@@ -40,7 +40,8 @@ module _ (ws out : List ℤ) where
 
 -- words that are lent what stands behind others
 pub behind : (ws vs out : List ℤ) {k : ℕ} {mid left : List ℤ} → k ≡ length ws → mid ≡ written ws out →
-    left ≡ written vs (take (length mid - k) (drop k mid)) → put_mid k (length mid - k) mid left ≡ written (ws ++ vs) out
+    left ≡ written vs (take (length mid - k) (drop k mid)) → put_mid k (length mid - k) mid left ≡ written (ws ++ vs)
+    out
 behind ws vs out {k} {mid} {left} e m w =
     let b : take k mid ++ left ≡ written (ws ++ vs) out = rw (w, lent mid k, m, e) (written_behind ws out vs) in
     back k mid left ∙ b
@@ -87,7 +88,8 @@ close-line (At from) NoLine h = absurd (omega arith)
 close-line (At from) (Line at device) h = pick (same_point at from) h
   where
     pick : (b : Bool) → 1 < length (cond b (pos 4 ∷ []) (pos 2 ∷ point_words device ++ pos 4 ∷ [])) →
-        (length (waiting_words (Line at device)) ≡ 3) × (cond b (pos 4 ∷ []) (pos 2 ∷ point_words device ++ pos 4 ∷ []) ≡
+        (length (waiting_words (Line at device)) ≡ 3) × (cond b (pos 4 ∷ []) (pos 2 ∷ point_words device ++ pos 4 ∷ [])
+        ≡
         waiting_words (Line at device) ++ pos 4 ∷ [])
     pick true h = absurd (omega arith)
     pick false h = (refl, refl)

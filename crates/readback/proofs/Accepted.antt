@@ -26,7 +26,8 @@ module _ (s : List ℕ) (e : first_of (check_rows s) ≡ Ok) where
 
   -- what holds so at each command holds at the first
   pub along-commands : (P : ℕ → Type 0) → ((i : ℕ) → raw_at s 5 ≤ i → P i) →
-      ((i : ℕ) → i < raw_at s 5 → is_bad (read_at behind (raw_at s 5) i).command ≡ false → P (next_at behind i) → P i) → P 0
+      ((i : ℕ) → i < raw_at s 5 → is_bad (read_at behind (raw_at s 5) i).command ≡ false → P (next_at behind i) → P i) →
+      P 0
   along-commands P last one =
       let n = raw_at s 5 in
       along (raw_at s 4) behind n (raw_at s 7) P last one n 0 (omega arith)

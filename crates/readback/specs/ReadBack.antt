@@ -1,5 +1,6 @@
 -- A script read back as what the writer takes (request 1).
-use Rattle.std.specs.Prelude.{◌≡◌, Bool, true, false, List, [], ◌∷◌, ◌++◌, map, ℕ, ◌+◌, ◌*◌, ◌≤◌, ltb, ℤ, pos, length, take, drop, replicate}
+use Rattle.std.specs.Prelude.{◌≡◌, Bool, true, false, List, [], ◌∷◌, ◌++◌, map, ℕ, ◌+◌, ◌*◌, ◌≤◌, ltb, ℤ, pos, length}
+use Rattle.std.specs.Prelude.{take, drop, replicate}
 use Rattle.fixed.specs.Integers.{signed}
 use Rattle.fixed.specs.Fixed.{ZERO}
 use Rattle.zones.specs.declared.blues.Blues.{Blues}

@@ -39,7 +39,8 @@ mask-call : (s l : List ℕ) (m n : ℕ) (v w : ℕ → ℕ) (k : ℕ) → is_ma
 unfolding command_of
 mask-call s l m n v w k e q = by (eqb k 2) refl e
   where
-    by : (b : Bool) → eqb k 2 ≡ b → (b || eqb k 3) ≡ true → call_of s m (command_of v 0 k) ≡ call_of l n (command_of w 0 k)
+    by : (b : Bool) → eqb k 2 ≡ b → (b || eqb k 3) ≡ true → call_of s m (command_of v 0 k) ≡ call_of l n
+        (command_of w 0 k)
     by true f g = rw (eqb-true k 2 f) (ap (λ (bs : List ℕ). hint_mask (mask_of bs)) q)
     by false f g = rw (eqb-true k 3 g) (ap (λ (bs : List ℕ). counter_mask (mask_of bs)) q)
 
@@ -73,7 +74,8 @@ module _ (s masks zeros : List ℕ) (from : ℕ) (there : drop from s ≡ masks 
   -- so are all of them
   pub pieces-call : (n place at left : ℕ) (ps : List Piece) → NoneHold (piece_rows at left ps) →
       n + left ≤ length masks →
-      map (λ (a : Asked). a.call) (calls_of s from (commands_as place (starts_from n ps))) ≡ calls_given (drop n masks) ps
+      map (λ (a : Asked). a.call) (calls_of s from (commands_as place (starts_from n ps))) ≡ calls_given (drop n masks)
+      ps
   unfolding piece_rows starts_from commands_as calls_of calls_given
   pieces-call n place at left [] c h = refl
   pieces-call n place at left (p ∷ ps) c h =

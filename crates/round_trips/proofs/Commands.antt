@@ -187,7 +187,8 @@ pieces-pass n place at left bytes (p ∷ ps) c s f =
     let t = bytes_taken p in
     let l = taken-left t left c.1.0 in
     let here = piece-passes n place left bytes p c.0 c.1.0 s f in
-    let behind = pieces-pass (n + t) (place + length (piece_words (started n p))) (at + length (piece_words p)) (left - t)
+    let behind = pieces-pass (n + t) (place + length (piece_words (started n p))) (at + length (piece_words p))
+    (left - t)
     bytes ps c.1.1 (omega arith) f in
     (here.0, (here.1.0, behind))
 

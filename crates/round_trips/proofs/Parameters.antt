@@ -170,7 +170,8 @@ module _ (w : ℕ → ℕ) (small : (j : ℕ) → w j < 2 ^ 32) where
   blues-words : (i n : ℕ) → pair_words (list_of (blues_at w i n)) ≡ words_from w i (2 * n)
   unfolding blues_at
   blues-words i n =
-      ap pair_words (take_at (pairs_from w i n) (replicate (max_blues - n) no_blue) n (pairs-many i n)) ∙ pairs-words i n
+      ap pair_words (take_at (pairs_from w i n) (replicate (max_blues - n) no_blue) n (pairs-many i n)) ∙ pairs-words i
+      n
 
   -- the numbers and the counts
   number-words : number_words (params_of w) ≡ words_from w 8 8

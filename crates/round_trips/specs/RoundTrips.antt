@@ -1,6 +1,7 @@
 -- Request 1's round trips: what is written reads back and makes the calls that were given, and a
 -- script that is read back is written as the same bytes exactly if its masks lie end to end.
-use Rattle.std.specs.Prelude.{◌≡◌, List, [], ◌∷◌, ◌++◌, map, ℕ, ◌+◌, ◌-◌, ◌<◌, pos, length, take, drop, get_or, replicate}
+use Rattle.std.specs.Prelude.{◌≡◌, List, [], ◌∷◌, ◌++◌, map, ℕ, ◌+◌, ◌-◌, ◌<◌, pos, length, take, drop, get_or}
+use Rattle.std.specs.Prelude.{replicate}
 use Rattle.std.specs.Int.{w32}
 use Rattle.std.proofs.Common.{SFits}
 use Rattle.fixed.specs.declared.Fixed.{Fixed}

@@ -42,7 +42,8 @@ pub record Passed (s : List ℕ) : Type 0 where
 pub passed : (s : List ℕ) → first_of (check_rows s) ≡ Ok → Passed s
 unfolding check_rows
 passed s e =
-    let h = both_ok (header_rows s) (param_rows (raw_at s) ++ command_rows (raw_at s 7) (commands_in s)) (header-refusing s) e
+    let h = both_ok (header_rows s) (param_rows (raw_at s) ++ command_rows (raw_at s 7) (commands_in s))
+    (header-refusing s) e
     in
     let p = both_ok (param_rows (raw_at s)) (command_rows (raw_at s 7) (commands_in s)) (params-refusing s) h.1 in
     let f = fine s h.0 in

@@ -1,6 +1,7 @@
 -- How many records there are in some words (01, "Path records"): 1 move x y; 2 line x y; 3 curve
 -- and six; 4 close; 5 finish.
-use Rattle.std.specs.Prelude.{Bool, true, false, ◌||◌, List, [], ◌∷◌, ℕ, zero, suc, ◌-◌, eqb, ℤ, pos, negsuc, length, drop}
+use Rattle.std.specs.Prelude.{Bool, true, false, ◌||◌, List, [], ◌∷◌, ℕ, zero, suc, ◌-◌, eqb, ℤ, pos, negsuc, length}
+use Rattle.std.specs.Prelude.{drop}
 
 abbrev pub size_by : Bool → Bool → ℕ
 size_by true curve = 3

@@ -18,7 +18,8 @@ pub record WriteReturned (o : WriteResult) (said : ℕ) (left : List ℕ) (bytes
   pub written : bytes ≡ written_bytes o.answer
   pub place : at ≡ write_place o.answer
 
-pub record EdgesReturned (o : SeenResult) (said : ℕ) (left : List ℤ) (edge_count pair_count ghost_count locked_count at : ℕ)
+pub record EdgesReturned (o : SeenResult) (said : ℕ) (left : List ℤ)
+    (edge_count pair_count ghost_count locked_count at : ℕ)
     : Type 0 where
   pub number : said ≡ seen_number o.answer
   pub memory : left ≡ o.left

@@ -156,7 +156,8 @@ module _ (l : List ℤ) (i : ℕ) (a b c : ℤ) where
   three-2 : i < 96 → 288 ≤ length l → get_or three (192 + i) (pos 0) ≡ c
   three-2 p q = get_or-set_same (set (set l i a) (96 + i) b) (192 + i) c (pos 0) (simp length-set (omega arith))
 
-  three-other : (k : ℕ) → (k ≡ i → ⊥) → (k ≡ 96 + i → ⊥) → (k ≡ 192 + i → ⊥) → get_or three k (pos 0) ≡ get_or l k (pos 0)
+  three-other : (k : ℕ) → (k ≡ i → ⊥) → (k ≡ 96 + i → ⊥) → (k ≡ 192 + i → ⊥) → get_or three k (pos 0) ≡ get_or l k
+      (pos 0)
   three-other k n₀ n₁ n₂ =
       get_or-set_other (set (set l i a) (96 + i) b) (192 + i) k c (pos 0) n₂ ∙
       get_or-set_other (set l i a) (96 + i) k b (pos 0) n₁ ∙
@@ -207,7 +208,8 @@ module _ (l : List ℤ) (t : List ℕ) (w : Whole l t) (i : ℕ) (p : i < 96) (h
   put_in : edges_in (set_lines l i h d s) (set_tags t i tag x) ≡ set (edges_in l t) i (decoded tag x h d s)
   unfolding edges_in
   put_in =
-      changed (hint_in l t) (hint_in (set_lines l i h d s) (set_tags t i tag x)) 96 i (decoded tag x h d s) no_hint p here
+      changed (hint_in l t) (hint_in (set_lines l i h d s) (set_tags t i tag x)) 96 i (decoded tag x h d s) no_hint p
+      here
       there
 
   put-long : Whole (set_lines l i h d s) (set_tags t i tag x)

@@ -1,5 +1,6 @@
 -- Edges and stems as numbers in lists: how they lie there, and what is read.
-use Rattle.std.specs.Prelude.{◌≡◌, Bool, true, false, List, [], ◌∷◌, ℕ, zero, suc, ◌+◌, ◌/◌, ◌%◌, eqb, ℤ, pos, length, get_or, set, take}
+use Rattle.std.specs.Prelude.{◌≡◌, Bool, true, false, List, [], ◌∷◌, ℕ, zero, suc, ◌+◌, ◌/◌, ◌%◌, eqb, ℤ, pos, length}
+use Rattle.std.specs.Prelude.{get_or, set, take}
 use Rattle.fixed.specs.declared.Fixed.{Fixed}
 use Rattle.fixed.specs.Fixed.{from_bits, ZERO, ONE, less_f}
 use Rattle.stems.specs.declared.edge.Hint.{Hint}
@@ -122,7 +123,8 @@ stem_by u a b c d =
 -- the stem at a place
 unfoldable pub stem_in : List ℤ → ℕ → StemHint
 stem_in ns i =
-    stem_by (get_or ns i (pos 0)) (get_or ns (96 + i) (pos 0)) (get_or ns (192 + i) (pos 0)) (get_or ns (288 + i) (pos 0))
+    stem_by (get_or ns i (pos 0)) (get_or ns (96 + i) (pos 0)) (get_or ns (192 + i) (pos 0))
+    (get_or ns (288 + i) (pos 0))
     (get_or ns (384 + i) (pos 0))
 
 -- the stems at all places, of which so many are declared

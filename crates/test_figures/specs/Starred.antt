@@ -1,6 +1,7 @@
 -- The figures that 01 stars ("Marked figures"), in one list: beside what 01 says stands what the
 -- definitions give. A later part adds its rows here.
-use Rattle.std.specs.Prelude.{◌≡◌, Bool, true, false, List, [], ◌∷◌, ◌++◌, map, ℕ, zero, suc, ◌*◌, pos, negsuc, replicate}
+use Rattle.std.specs.Prelude.{◌≡◌, Bool, true, false, List, [], ◌∷◌, ◌++◌, map, ℕ, zero, suc, ◌*◌, pos, negsuc}
+use Rattle.std.specs.Prelude.{replicate}
 use Rattle.fixed.specs.declared.Fixed.{Fixed}
 use Rattle.fixed.specs.Fixed.{from_bits, mul_f, round_f, trunc_f}
 use Rattle.stems.specs.declared.mask.HintMask.{HintMask}

@@ -1,5 +1,6 @@
 -- What becomes of a script, by what the reader and the writer say of it. Assumes nothing.
-use Rattle.std.proofs.Common.{◌≡◌, ℕ, ◌<◌, ◌≤◌, Bool, true, false, List, length, take, drop, ℤ, sym, refl, arith, length-append}
+use Rattle.std.proofs.Common.{◌≡◌, ℕ, ◌<◌, ◌≤◌, Bool, true, false, List, length, take, drop, ℤ, sym, refl, arith}
+use Rattle.std.proofs.Common.{length-append}
 use Rattle.words.specs.declared.answer.Answer.{Answer}
 use Rattle.words.specs.Answers.{number_of, refuses, first_of}
 use Rattle.words.proofs.Answers.{not-refused}

@@ -13,7 +13,8 @@ module _ (head stored : List ℕ) (r : Result) (said : Answer) (left : List ℤ)
   unfolding verdict_of
   other-number n = rw (sym s.answer.number, ne_eqb (number_of said) (raw_at head 4) n)
 
-  pub other_place : number_of said ≡ raw_at head 4 → (place_of said ≡ raw_at head 5 → ⊥) → Place ≡ verdict_of head stored r
+  pub other_place : number_of said ≡ raw_at head 4 → (place_of said ≡ raw_at head 5 → ⊥) → Place ≡ verdict_of head
+      stored r
   unfolding verdict_of
   other_place n p =
       rw (

@@ -1,7 +1,6 @@
 // What becomes of scripts, counted. model/tables/scripts_again.py gives the same counts.
 use crate::again::Again;
-use io::{print_decimal, write_all};
-use libc::STDOUT_FILENO;
+use std::io;
 use std::num::wrapping_add_usize;
 
 #[derive(Clone, Copy)]
@@ -34,15 +33,10 @@ impl AgainTally {
         tally
     }
 
-    pub(crate) fn say(self) {
-        write_all(STDOUT_FILENO, b"written again: ");
-        print_decimal(STDOUT_FILENO, self.same_bytes as u64);
-        write_all(STDOUT_FILENO, b" the same bytes, ");
-        print_decimal(STDOUT_FILENO, self.other_bytes as u64);
-        write_all(STDOUT_FILENO, b" other bytes, ");
-        print_decimal(STDOUT_FILENO, self.refused as u64);
-        write_all(STDOUT_FILENO, b" refused by the writer; ");
-        print_decimal(STDOUT_FILENO, self.not_read as u64);
-        write_all(STDOUT_FILENO, b" not read back\n");
+    pub(crate) fn say(self, rt: &impl Print) -> io::Result<()> {
+        print!(rt; "written again: {} the same bytes, ", self.same_bytes)?;
+        print!(rt; "{} other bytes, ", self.other_bytes)?;
+        print!(rt; "{} refused by the writer; ", self.refused)?;
+        println!(rt; "{} not read back", self.not_read)
     }
 }

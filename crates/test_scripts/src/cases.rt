@@ -3,6 +3,9 @@ ghost use Rattle.std.specs.Prelude.{◌*◌, ◌≤◌, length};
 
 use crate::again::{Again, script_again};
 use crate::judging::{Verdict, judged};
+use std::io;
+use std::io::Read;
+use test_tables::read_full;
 use words::natural;
 
 #[derive(Clone, Copy)]
@@ -23,7 +26,7 @@ pub(crate) struct Judged {
 
 // One case. There is place for 16,400 words of script, which are more than a script may have, and
 // for 4,096 of room.
-pub(crate) fn case(file: i32) -> Seen {
+pub(crate) fn case<R: Read>(file: &mut R) -> io::Result<Seen> {
     let mut script = [0u8; 65600];
     let mut stored = [0u8; 16384];
     let mut out = [0i32; 4096];
@@ -32,17 +35,22 @@ pub(crate) fn case(file: i32) -> Seen {
 
 // Reads a case, which is six words of header, the script up to a whole word, and the words of the
 // room.
-fn read_case(file: i32, script: &mut [u8], stored: &mut [u8], out: &mut [i32]) -> Seen {
+fn read_case<R: Read>(
+    file: &mut R,
+    script: &mut [u8],
+    stored: &mut [u8],
+    out: &mut [i32],
+) -> io::Result<Seen> {
     let mut head = [0u8; 24];
-    if io::read_full(file, &mut head) < 24 {
-        return Seen::Cut;
+    if read_full(file, &mut head)? < 24 {
+        return Ok(Seen::Cut);
     }
     let length = natural(&head, 0);
     let room = natural(&head, 1);
     let padded = 4 * ((length + 3) / 4);
     let end = 4 * room;
     if script.len() < padded || stored.len() < end || out.len() < room {
-        return Seen::Cut;
+        return Ok(Seen::Cut);
     }
     read_rest(
         file,
@@ -55,29 +63,29 @@ fn read_case(file: i32, script: &mut [u8], stored: &mut [u8], out: &mut [i32]) -
 }
 
 // Reads the padded script and the stored words, and runs the script, which is so many bytes long.
-fn read_rest(
-    file: i32,
+fn read_rest<R: Read>(
+    file: &mut R,
     head: &[u8],
     bytes: usize,
     padded: &mut [u8],
     stored: &mut [u8],
     out: &mut [i32],
-) -> Seen
+) -> io::Result<Seen>
     requires { (24 ≤ length head.now) ×
         ((bytes ≤ length padded.old) × (4 * length out.old ≤ length stored.old)) }
 {
-    if io::read_full(file, padded) < padded.len() {
-        return Seen::Cut;
+    if read_full(file, padded)? < padded.len() {
+        return Ok(Seen::Cut);
     }
-    if io::read_full(file, stored) < stored.len() {
-        return Seen::Cut;
+    if read_full(file, stored)? < stored.len() {
+        return Ok(Seen::Cut);
     }
     let verdict = judged(head, &padded[..bytes], stored, out);
     let again = script_again(&padded[..bytes]);
-    Seen::Run(Judged {
+    Ok(Seen::Run(Judged {
         number: natural(head, 4),
         mark: natural(head, 3),
         verdict,
         again,
-    })
+    }))
 }

@@ -2,8 +2,8 @@
 use crate::again_tally::AgainTally;
 use crate::cases::{Judged, Seen, case};
 use crate::judging::Verdict;
-use io::{print_decimal, write_all};
-use libc::STDOUT_FILENO;
+use std::io;
+use std::io::Read;
 use std::num::wrapping_add_usize;
 use test_tables::{case_count, case_cut, case_differs, case_differs_at, end_of_cases};
 
@@ -55,83 +55,96 @@ impl Tally {
 }
 
 // The tables of scripts.
-pub(crate) fn scripts(file: i32) {
-    let mut tally = table(b"the whole case", file, AgainTally::none());
-    tally = table(b"lengths", file, tally.again);
-    tally = table(b"header", file, tally.again);
-    tally = table(b"padding", file, tally.again);
-    tally = table(b"parameters", file, tally.again);
-    tally = table(b"kinds", file, tally.again);
-    tally = table(b"operands cut off", file, tally.again);
-    tally = table(b"masks", file, tally.again);
-    tally = table(b"two faults", file, tally.again);
-    tally = table(b"rooms", file, tally.again);
-    tally = table(b"glyphs", file, tally.again);
-    tally = table(b"damaged copies", file, tally.again);
-    tally = table(b"the first family blue", file, tally.again);
-    end_of_cases(file);
+pub(crate) fn scripts<R: Read>(rt: &impl Print, file: &mut R) -> io::Result<()> {
+    let mut tally = table(rt, b"the whole case", file, AgainTally::none())?;
+    tally = table(rt, b"lengths", file, tally.again)?;
+    tally = table(rt, b"header", file, tally.again)?;
+    tally = table(rt, b"padding", file, tally.again)?;
+    tally = table(rt, b"parameters", file, tally.again)?;
+    tally = table(rt, b"kinds", file, tally.again)?;
+    tally = table(rt, b"operands cut off", file, tally.again)?;
+    tally = table(rt, b"masks", file, tally.again)?;
+    tally = table(rt, b"two faults", file, tally.again)?;
+    tally = table(rt, b"rooms", file, tally.again)?;
+    tally = table(rt, b"glyphs", file, tally.again)?;
+    tally = table(rt, b"damaged copies", file, tally.again)?;
+    tally = table(rt, b"the first family blue", file, tally.again)?;
+    end_of_cases(rt, file)?;
     let again = tally.again;
-    again.say();
+    again.say(rt)
 }
 
 // The sample, which is one table.
-pub(crate) fn sample(file: i32) {
-    let tally = table(b"sample", file, AgainTally::none());
-    end_of_cases(file);
-    totals(tally);
+pub(crate) fn sample<R: Read>(rt: &impl Print, file: &mut R) -> io::Result<()> {
+    let tally = table(rt, b"sample", file, AgainTally::none())?;
+    end_of_cases(rt, file)?;
+    totals(rt, tally)?;
     let again = tally.again;
-    again.say();
+    again.say(rt)
 }
 
 // Runs as many cases as the next word says, and says how many differ.
-fn table(name: &[u8], file: i32, again: AgainTally) -> Tally {
-    let tally = run(file, case_count(file), again);
-    test_tables::counts(name, tally.run, tally.differ);
-    tally
+fn table<R: Read>(
+    rt: &impl Print,
+    name: &[u8],
+    file: &mut R,
+    again: AgainTally,
+) -> io::Result<Tally> {
+    let count = case_count(file)?;
+    let tally = run(rt, file, count, again)?;
+    test_tables::counts(rt, name, tally.run, tally.differ)?;
+    Ok(tally)
 }
 
 // Runs so many cases, or those before the first that cannot be read.
-fn run(file: i32, count: usize, again: AgainTally) -> Tally {
+fn run<R: Read>(
+    rt: &impl Print,
+    file: &mut R,
+    count: usize,
+    again: AgainTally,
+) -> io::Result<Tally> {
     let mut tally = Tally::after(again);
     for i in 0..count {
-        let seen = case(file);
+        let seen = case(file)?;
         let Seen::Run(judged) = seen else {
-            case_cut(i);
-            return tally;
+            case_cut(rt, i)?;
+            return Ok(tally);
         };
         let verdict = judged.verdict;
         if tally.differ < 10 {
-            difference(i, verdict);
+            difference(rt, i, verdict)?;
         }
         tally = tally.with(judged);
     }
-    tally
+    Ok(tally)
 }
 
 // Where a case first differs, if it does.
-fn difference(i: usize, verdict: Verdict) {
+fn difference(rt: &impl Print, i: usize, verdict: Verdict) -> io::Result<()> {
     match verdict {
-        Verdict::Same => {}
-        Verdict::Number => case_differs(i, b"number"),
-        Verdict::Place => case_differs(i, b"place"),
-        Verdict::Word(at) => case_differs_at(i, b"word ", at),
+        Verdict::Same => Ok(()),
+        Verdict::Number => case_differs(rt, i, b"number"),
+        Verdict::Place => case_differs(rt, i, b"place"),
+        Verdict::Word(at) => case_differs_at(rt, i, b"word ", at),
     }
 }
 
-fn totals(tally: Tally) {
-    total(b"OK", tally.numbers[0]);
-    total(b"BAD_SCRIPT", tally.numbers[1]);
-    total(b"BAD_SCALE", tally.numbers[2]);
-    total(b"BAD_BLUES", tally.numbers[3]);
-    total(b"BAD_COMMAND", tally.numbers[4]);
-    total(b"BAD_MASK", tally.numbers[5]);
-    total(b"NO_ROOM", tally.numbers[6]);
-    total(b"marked, since the Rust answers otherwise", tally.marked);
+fn totals(rt: &impl Print, tally: Tally) -> io::Result<()> {
+    total(rt, b"OK", tally.numbers[0])?;
+    total(rt, b"BAD_SCRIPT", tally.numbers[1])?;
+    total(rt, b"BAD_SCALE", tally.numbers[2])?;
+    total(rt, b"BAD_BLUES", tally.numbers[3])?;
+    total(rt, b"BAD_COMMAND", tally.numbers[4])?;
+    total(rt, b"BAD_MASK", tally.numbers[5])?;
+    total(rt, b"NO_ROOM", tally.numbers[6])?;
+    total(
+        rt,
+        b"marked, since the Rust answers otherwise",
+        tally.marked,
+    )
 }
 
-fn total(name: &[u8], count: usize) {
-    write_all(STDOUT_FILENO, name);
-    write_all(STDOUT_FILENO, b": ");
-    print_decimal(STDOUT_FILENO, count as u64);
-    write_all(STDOUT_FILENO, b"\n");
+fn total(rt: &impl Print, name: &[u8], count: usize) -> io::Result<()> {
+    rt.write_all(name)?;
+    println!(rt; ": {count}")
 }

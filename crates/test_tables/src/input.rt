@@ -1,7 +1,7 @@
 // The input of a program: tables one behind the other, each with the count of its rows in front. A
 // row starts with the count of its numbers. All are words of four bytes, the least byte first. Past
 // the input's end there are only zeros.
-ghost use Rattle.std.specs.Prelude.{◌≤◌, length, IfOk};
+ghost use Rattle.std.specs.Prelude.{◌≡◌, ◌≤◌, length, IfOk};
 
 use std::io;
 use std::io::Read;
@@ -10,7 +10,8 @@ use words::{natural, word};
 // Reads until the buffer is full or the input ends, and answers how many bytes it put at the
 // buffer's start. A read may give fewer than there are before the end.
 pub fn read_full<R: Read>(input: &mut R, buf: &mut [u8]) -> io::Result<usize>
-    ensures { IfOk result (λ n. n ≤ length buf.new) }
+    ensures within { IfOk result (λ n. n ≤ length buf.new) }
+    ensures kept { length buf.new ≡ length buf.old }
 {
     let mut done = 0;
     for _ in 0..u64::MAX {
@@ -43,7 +44,8 @@ fn next_number<R: Read>(input: &mut R) -> io::Result<i32> {
 // number. It takes none if it has no numbers, as past the input's end, or more than there is place
 // for.
 pub fn next_row<R: Read>(input: &mut R, row: &mut [i32]) -> io::Result<usize>
-    ensures { IfOk result (λ n. n ≤ length row.new) }
+    ensures within { IfOk result (λ n. n ≤ length row.new) }
+    ensures kept { length row.new ≡ length row.old }
 {
     let count = next_count(input)?;
     if count == 0 {

@@ -1,5 +1,6 @@
 -- One turn of a loop that fills a buffer, and its end. Assumes nothing.
-use Rattle.std.proofs.Common.{◌≡◌, ℕ, ◌+◌, ◌<◌, List, [], ◌∷◌, ◌++◌, length, take, set, sym, ap, ◌∙◌, add-one, arith, take_all, take-suc-set}
+use Rattle.std.proofs.Common.{◌≡◌, ℕ, ◌+◌, ◌<◌, List, [], ◌∷◌, ◌++◌, length, take, set, sym, ap, ◌∙◌, add-one, arith}
+use Rattle.std.proofs.Common.{take_all, take-suc-set}
 use Rattle.test_writer.specs.Lending.{filled}
 
 module _ {A : Type 0} (f : ℕ → A) (out : List A) (i : ℕ) where

@@ -12,14 +12,12 @@ mod report;
 mod write_cases;
 mod write_row;
 
+use std::fs::File;
+use std::io;
+
 // `python3 -m model` makes this file, from model/tables/writer.py, which says what of it is worked
 // by hand; the rest comes from model/writer.py.
-fn main() {
-    let file = os::open_read(b"writer.bin");
-    if file < 0 {
-        os::fail(b"writer.bin");
-        return;
-    }
-    report::tables(file);
-    libc::close(file);
+fn main(rt: HostRuntime) -> io::Result<()> {
+    let mut file = File::open(&rt, "writer.bin")?;
+    report::tables(&rt, &mut file)
 }

@@ -5,13 +5,15 @@ ghost use Rattle.header.specs.Header.{padded};
 use crate::cases::{HELD_BYTES, HELD_WORDS, Seen};
 use crate::judging::{Verdict, judged_reading};
 use crate::read_row;
+use std::io;
+use std::io::Read;
 use test_tables::read_bytes;
 use words::{natural, read_words};
 
 // The bytes of all parts of a case.
 const HELD_CASE: usize = 4 * (read_row::PARAMS + HELD_WORDS) + 2 * HELD_BYTES;
 
-pub(crate) fn read_case(file: i32, head: &[u8]) -> Seen
+pub(crate) fn read_case<R: Read>(file: &mut R, head: &[u8]) -> io::Result<Seen>
     requires { 36 ≤ length head.now }
 {
     let mut case = [0u8; HELD_CASE];
@@ -19,7 +21,7 @@ pub(crate) fn read_case(file: i32, head: &[u8]) -> Seen
 }
 
 // Reads as many bytes as the case has.
-fn read_sized(file: i32, head: &[u8], case: &mut [u8]) -> Seen
+fn read_sized<R: Read>(file: &mut R, head: &[u8], case: &mut [u8]) -> io::Result<Seen>
     requires { 36 ≤ length head.now }
 {
     let size = natural(head, read_row::SCRIPT);
@@ -27,12 +29,12 @@ fn read_sized(file: i32, head: &[u8], case: &mut [u8]) -> Seen
     let bytes = natural(head, read_row::ROOM_BYTES);
     let end = 4 * (read_row::PARAMS + (size + 3) / 4 + words + (bytes + 3) / 4);
     if HELD_WORDS < words || HELD_BYTES < bytes || case.len() < end {
-        return Seen::Cut;
+        return Ok(Seen::Cut);
     }
-    if !read_bytes(file, &mut case[..end]) {
-        return Seen::Cut;
+    if !read_bytes(file, &mut case[..end])? {
+        return Ok(Seen::Cut);
     }
-    Seen::Run(run_case(head, case, size, words, bytes))
+    Ok(Seen::Run(run_case(head, case, size, words, bytes)))
 }
 
 // Lends as many words and bytes as the case says.

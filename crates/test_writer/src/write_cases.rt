@@ -5,6 +5,8 @@ ghost use Rattle.header.specs.Header.{padded};
 use crate::cases::{HELD_BYTES, HELD_WORDS, Seen};
 use crate::judging::{Verdict, judged_writing};
 use crate::write_row;
+use std::io;
+use std::io::Read;
 use test_tables::read_bytes;
 use words::{natural, read_words};
 
@@ -14,7 +16,7 @@ const HELD_PARAMS: usize = 72;
 // The bytes of all parts of a case.
 const HELD_CASE: usize = 4 * (HELD_PARAMS + HELD_WORDS) + 2 * HELD_BYTES;
 
-pub(crate) fn write_case(file: i32, head: &[u8]) -> Seen
+pub(crate) fn write_case<R: Read>(file: &mut R, head: &[u8]) -> io::Result<Seen>
     requires { 36 ≤ length head.now }
 {
     let mut case = [0u8; HELD_CASE];
@@ -22,7 +24,7 @@ pub(crate) fn write_case(file: i32, head: &[u8]) -> Seen
 }
 
 // Reads as many bytes as the case has.
-fn read_sized(file: i32, head: &[u8], case: &mut [u8]) -> Seen
+fn read_sized<R: Read>(file: &mut R, head: &[u8], case: &mut [u8]) -> io::Result<Seen>
     requires { 36 ≤ length head.now }
 {
     let words = natural(head, write_row::PARAMS);
@@ -31,12 +33,12 @@ fn read_sized(file: i32, head: &[u8], case: &mut [u8]) -> Seen
     let room = natural(head, write_row::ROOM);
     let end = 4 * (words + count + (bytes + 3) / 4 + (room + 3) / 4);
     if HELD_PARAMS < words || HELD_WORDS < count || HELD_BYTES < room || case.len() < end {
-        return Seen::Cut;
+        return Ok(Seen::Cut);
     }
-    if !read_bytes(file, &mut case[..end]) {
-        return Seen::Cut;
+    if !read_bytes(file, &mut case[..end])? {
+        return Ok(Seen::Cut);
     }
-    Seen::Run(run_case(head, case, words, count, bytes, room))
+    Ok(Seen::Run(run_case(head, case, words, count, bytes, room)))
 }
 
 // Lends as many words and bytes as the case says.

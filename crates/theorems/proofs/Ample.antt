@@ -18,7 +18,8 @@ use Rattle.theorems.specs.Demand1.{Checked, Ample}
 use Rattle.theorems.proofs.Demand1.{gives}
 
 -- the record words of some calls are at most ten for each
-along-short : (st : HintState) (d : Drawing) (cs : List Asked) → length (words_along (steps_of st d cs)) ≤ 10 * length cs
+along-short : (st : HintState) (d : Drawing) (cs : List Asked) → length (words_along (steps_of st d cs)) ≤ 10 * length
+    cs
 unfolding steps_of
 along-short st d [] = omega arith
 along-short st d (c ∷ cs) =

@@ -34,7 +34,8 @@ use Rattle.hintmap.specs.WholeStems.{Like}
 use Rattle.hintmap.proofs.Alike.{like-refl}
 use Rattle.hintmap.proofs.Walk.{serves-at}
 use Rattle.build.specs.Ghosts.{ghost_at, em_bottom, em_top, em_boxed, uncovered, baseline_by, baselined}
-use Rattle.build.specs.Place.{declared_in, prepared_of, put_by, locked_by, locked_turn, locked_turns, free_by, free_turn}
+use Rattle.build.specs.Place.{declared_in, prepared_of, put_by, locked_by, locked_turn, locked_turns, free_by}
+use Rattle.build.specs.Place.{free_turn}
 use Rattle.build.specs.Place.{Placed, free_turns}
 use Rattle.build.specs.Build.{boxed_map, initial_placed, locked_placed}
 use Rattle.build.proofs.Steps.{prepared-like, locked-cases}

@@ -53,22 +53,27 @@ module _ (s : List ℕ) where
   by-header : (a : Answer) → 0 < number_of a → first_of (header_rows s) ≡ a → first_of (check_rows s) ≡ a
   unfolding check_rows
   by-header a h e =
-      found Ok (header_rows s) (param_rows (raw_at s) ++ command_rows (raw_at s 7) (commands_in s)) (refusal (rw e h)) ∙ e
+      found Ok (header_rows s) (param_rows (raw_at s) ++ command_rows (raw_at s 7) (commands_in s)) (refusal (rw e h)) ∙
+      e
 
   module _ (h : HeaderFine s) where
-    past-header : first_of (check_rows s) ≡ first_of (param_rows (raw_at s) ++ command_rows (raw_at s 7) (commands_in s))
+    past-header : first_of (check_rows s) ≡ first_of (param_rows (raw_at s) ++ command_rows (raw_at s 7)
+        (commands_in s))
     unfolding check_rows
     past-header =
-        onward Ok (header_rows s) (param_rows (raw_at s) ++ command_rows (raw_at s 7) (commands_in s)) (header-refusing s) h
+        onward Ok (header_rows s) (param_rows (raw_at s) ++ command_rows (raw_at s 7) (commands_in s))
+        (header-refusing s) h
 
     by-params : (a : Answer) → 0 < number_of a → first_of (param_rows (raw_at s)) ≡ a → first_of (check_rows s) ≡ a
     by-params a l e =
-        past-header ∙ found Ok (param_rows (raw_at s)) (command_rows (raw_at s 7) (commands_in s)) (refusal (rw e l)) ∙ e
+        past-header ∙ found Ok (param_rows (raw_at s)) (command_rows (raw_at s 7) (commands_in s)) (refusal (rw e l)) ∙
+        e
 
     by-commands : first_of (param_rows (raw_at s)) ≡ Ok →
         first_of (check_rows s) ≡ first_of (command_rows (raw_at s 7) (commands_in s))
     by-commands p =
-        past-header ∙ onward Ok (param_rows (raw_at s)) (command_rows (raw_at s 7) (commands_in s)) (params-refusing s) p
+        past-header ∙ onward Ok (param_rows (raw_at s)) (command_rows (raw_at s 7) (commands_in s)) (params-refusing s)
+        p
 
     in-commands : {cs : List CommandAt} {a : Answer} → first_of (param_rows (raw_at s)) ≡ Ok → commands_in s ≡ cs →
         first_of (command_rows (raw_at s 7) cs) ≡ a → first_of (check_rows s) ≡ a
@@ -192,7 +197,8 @@ module _ (s : List ℕ) where
     some-row : (b : Bool) → refuses (first_of (header_rows s)) ≡ b → Met
     some-row true e =
         header_row (first_of (header_rows s))
-        (first-given Ok (header_rows s) (first_of (header_rows s)) (refusal (is-refused (first_of (header_rows s)) e)) refl)
+        (first-given Ok (header_rows s) (first_of (header_rows s)) (refusal (is-refused (first_of (header_rows s)) e))
+        refl)
     some-row false e =
         let h = not-refused (first_of (header_rows s)) e in
         params-row h (params-or-row s out h)

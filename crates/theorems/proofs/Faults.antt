@@ -27,7 +27,8 @@ module _ (bytes : ℕ) where
   one-fault (Mark Close) e = refl
   one-fault (Draw p) e = refl
 
-  rows_append : (bs cs : List CommandAt) → command_rows bytes (bs ++ cs) ≡ command_rows bytes bs ++ command_rows bytes cs
+  rows_append : (bs cs : List CommandAt) → command_rows bytes (bs ++ cs) ≡ command_rows bytes bs ++ command_rows bytes
+      cs
   unfolding command_rows
   rows_append [] cs = refl
   rows_append (b ∷ bs) cs = rw (rows_append bs cs)

@@ -17,11 +17,13 @@ use Rattle.pen.specs.Strokes.{move_of, line_of, curve_of, finish_of}
 use Rattle.hints.specs.declared.hints.Hints.{Hints}
 use Rattle.pen.specs.declared.strokes.Path.{Path}
 use Rattle.pen.specs.declared.strokes.Path.TheVariants.{Move, Line, Curve, Finish}
-use Rattle.hints.specs.Hints.{stem_by, with_stem, mask_by, with_mask, initial_by, with_initial, countered, ready_by, ready_of}
+use Rattle.hints.specs.Hints.{stem_by, with_stem, mask_by, with_mask, initial_by, with_initial, countered, ready_by}
+use Rattle.hints.specs.Hints.{ready_of}
 use Rattle.hints.specs.Hints.{device_point}
 use Rattle.hints.specs.Path.{has_point}
 use Rattle.hints.specs.declared.drawing.Drawing.{Drawing}
-use Rattle.hints.specs.Calls.{Call, stem, hint_mask, counter_mask, clear, close, draw, ready_for, stroke_of, next_of, room_by}
+use Rattle.hints.specs.Calls.{Call, stem, hint_mask, counter_mask, clear, close, draw, ready_for, stroke_of, next_of}
+use Rattle.hints.specs.Calls.{room_by}
 use Rattle.hints.specs.Calls.{new_drawing}
 use Rattle.theorems.specs.Reached.{InitialMade, MapMade, carried_point, Pointed, LineMade}
 

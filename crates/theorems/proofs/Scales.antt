@@ -19,7 +19,8 @@ use Rattle.hintmap.specs.declared.map.HintMap.{HintMap}
 use Rattle.hintmap.specs.Map.{view}
 use Rattle.hintmap.proofs.WholeStems.{Good}
 use Rattle.adjust.specs.declared.Neighbour.{Neighbour}
-use Rattle.adjust.specs.Adjust.{edge_at, above_of, below_of, moved_hint, settle_by, settle_of, at_scale, slope, rescaled_by}
+use Rattle.adjust.specs.Adjust.{edge_at, above_of, below_of, moved_hint, settle_by, settle_of, at_scale, slope}
+use Rattle.adjust.specs.Adjust.{rescaled_by}
 use Rattle.adjust.specs.Adjust.{rescaled_hint, with_edge}
 use Rattle.adjust.specs.Pass.{Pass, next_place, upper_of, put_back, turn_of, pass_from, first_pass}
 use Rattle.adjust.specs.Second.{start_of, adjust_of}

@@ -27,7 +27,8 @@ use Rattle.hintmap.proofs.Words.{stems-ascend, bottom-top, shared}
 use Rattle.hintmap.proofs.Mapping.{Mapped, mapped, Serves as ServesList, below, above, serves}
 use Rattle.build.proofs.Sound.{initial-good, built-good, initial-scale, built-scale}
 use Rattle.hints.specs.declared.hints.Hints.{Hints}
-use Rattle.hints.specs.Hints.{new_hints, stem_by, with_stem, mask_by, with_mask, initial_by, with_initial, countered, ready_by}
+use Rattle.hints.specs.Hints.{new_hints, stem_by, with_stem, mask_by, with_mask, initial_by, with_initial, countered}
+use Rattle.hints.specs.Hints.{ready_by}
 use Rattle.hints.specs.Hints.{ready_of}
 use Rattle.hints.specs.Path.{has_point}
 use Rattle.hints.specs.declared.drawing.Drawing.{Drawing}

@@ -22,7 +22,8 @@ use Rattle.hintmap.proofs.Words.{pair-real}
 use Rattle.build.proofs.Once.{numbered}
 use Rattle.build.proofs.Used.{built-keeps}
 use Rattle.hints.specs.declared.hints.Hints.{Hints}
-use Rattle.hints.specs.Hints.{new_hints, stem_by, with_stem, mask_by, with_mask, initial_by, with_initial, countered, ready_by}
+use Rattle.hints.specs.Hints.{new_hints, stem_by, with_stem, mask_by, with_mask, initial_by, with_initial, countered}
+use Rattle.hints.specs.Hints.{ready_by}
 use Rattle.hints.specs.Hints.{ready_of}
 use Rattle.hints.specs.Path.{has_point}
 use Rattle.hints.specs.declared.drawing.Drawing.{Drawing}

@@ -15,7 +15,8 @@ use Rattle.pen.specs.declared.strokes.Start.TheVariants.{At, Absent as NoStart}
 use Rattle.pen.specs.declared.strokes.Waiting.{Waiting}
 use Rattle.pen.specs.declared.strokes.Waiting.TheVariants.{Line as Waits, Absent as NoLine}
 use Rattle.pen.specs.declared.strokes.Pen.{Pen}
-use Rattle.pen.specs.Strokes.{same_point, point_words, close_by, closing_words, waiting_words, flush_words, move_of, line_of}
+use Rattle.pen.specs.Strokes.{same_point, point_words, close_by, closing_words, waiting_words, flush_words, move_of}
+use Rattle.pen.specs.Strokes.{line_of}
 use Rattle.pen.specs.Strokes.{curve_of, finish_of}
 use Rattle.pen.specs.declared.strokes.Path.{Path}
 use Rattle.pen.specs.declared.strokes.Path.TheVariants.{Move, Line, Curve, Finish}

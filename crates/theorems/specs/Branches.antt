@@ -1,6 +1,7 @@
 -- Request 3, as a reader has it: two branches of the Rust that nothing enters. The code has neither
 -- of them. Here they are said, with all mappings and all insertions where they would be entered.
-use Rattle.std.specs.Prelude.{◌≡◌, Bool, true, false, cond, not, ◌&&◌, ◌||◌, List, [], ◌∷◌, ◌++◌, ℕ, zero, suc, eqb, drop, get_or}
+use Rattle.std.specs.Prelude.{◌≡◌, Bool, true, false, cond, not, ◌&&◌, ◌||◌, List, [], ◌∷◌, ◌++◌, ℕ, zero, suc, eqb}
+use Rattle.std.specs.Prelude.{drop, get_or}
 use Rattle.fixed.specs.declared.Fixed.{Fixed}
 use Rattle.fixed.specs.Fixed.{ZERO, mul_f, less_f}
 use Rattle.stems.specs.declared.mask.HintMask.{HintMask}

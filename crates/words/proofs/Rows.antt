@@ -13,7 +13,8 @@ none_before j l = omega arith
 
 module _ {A : Type 0} (ok : A) where
   -- a test that holds, after those that do not, gives its refusal
-  pub hit : (rs : List (Row A)) (k : ℕ) → (row_at ok rs k).fault ≡ true → first_or ok (drop k rs) ≡ (row_at ok rs k).said
+  pub hit : (rs : List (Row A)) (k : ℕ) → (row_at ok rs k).fault ≡ true → first_or ok (drop k rs) ≡
+      (row_at ok rs k).said
   unfolding first_or
   hit [] k e = absurd (true≢false (sym e))
   hit (r ∷ rs) zero e = ap (λ (t : Bool). cond t r.said (first_or ok rs)) e
@@ -91,7 +92,8 @@ module _ {A : Type 0} (ok : A) where
       reach (suc k) f = reach k (λ j h. f j (omega arith)) ∙ skip rs k (f k (omega arith))
 
   -- tests in two lists: a refusal of the first list stands, whatever is answered where none refuses
-  pub found-else : (ok' : A) (rs qs : List (Row A)) → (first_or ok rs ≡ ok → ⊥) → first_or ok' (rs ++ qs) ≡ first_or ok rs
+  pub found-else : (ok' : A) (rs qs : List (Row A)) → (first_or ok rs ≡ ok → ⊥) → first_or ok' (rs ++ qs) ≡ first_or ok
+      rs
   unfolding first_or
   found-else ok' [] qs h = absurd (h refl)
   found-else ok' (r ∷ rs) qs h = by r.fault h (λ l. found-else ok' rs qs l)

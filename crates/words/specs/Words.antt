@@ -7,7 +7,8 @@ use Rattle.fixed.specs.Fixed.{from_bits}
 -- word i as a number from 0 to 2^32 − 1
 unfoldable pub raw_at : List ℕ → ℕ → ℕ
 raw_at s i =
-    get_or s (4 * i) 0 + get_or s (4 * i + 1) 0 * 256 + get_or s (4 * i + 2) 0 * 65536 + get_or s (4 * i + 3) 0 * 16777216
+    get_or s (4 * i) 0 + get_or s (4 * i + 1) 0 * 256 + get_or s (4 * i + 2) 0 * 65536 + get_or s (4 * i + 3) 0 *
+    16777216
 
 -- 32 bits are negative from 2^31 on
 abbrev pub negative : ℕ → Bool

@@ -126,7 +126,8 @@ operand_at ws i n h =
     get_or-take n (drop (i + 1) ws) 0 0 h ∙ get_or-drop (i + 1) ws 0 0 ∙ ap (λ (k : ℕ). get_or ws k 0) e
 
 -- a mask takes as many bytes as the word behind its kind says, and what is no mask takes none
-pub mask-takes : (ws : List ℕ) (i : ℕ) → is_mask (get_or ws i 0) ≡ true → bytes_taken (piece_at ws i) ≡ get_or ws (i + 1) 0
+pub mask-takes : (ws : List ℕ) (i : ℕ) → is_mask (get_or ws i 0) ≡ true → bytes_taken (piece_at ws i) ≡ get_or ws
+    (i + 1) 0
 unfolding given_operands
 mask-takes ws i e = rw e (operand_at ws i 1 (omega arith))
 
@@ -140,7 +141,8 @@ at_most_one false = omega arith
 -- the masks from a word on
 pub masks-at : (ws : List ℕ) (i : ℕ) → i < length ws →
     masks_in (pieces_of given_operands (drop i ws)) ≡
-    bool_byte (is_mask (get_or ws i 0)) + masks_in (pieces_of given_operands (drop (i + 1 + given_operands (get_or ws i 0)) ws))
+    bool_byte (is_mask (get_or ws i 0)) + masks_in (pieces_of given_operands
+    (drop (i + 1 + given_operands (get_or ws i 0)) ws))
 unfolding masks_in
 masks-at ws i h = ap masks_in (piece-at ws i h) ∙ by (is_mask (get_or ws i 0))
   where

@@ -77,7 +77,8 @@ pub found-end : (ws : List ℕ) (i left : ℕ) → length ws ≤ i →
     found ws i left ≡ cond (ltb 0 left) (BadMask i) (Written 0)
 unfolding first_or piece_rows
 found-end ws i left h =
-    ap (λ (l : List ℕ). first_or (Written 0) (piece_rows i left (pieces_of given_operands l))) (drop_of_length-le ws h) ∙
+    ap (λ (l : List ℕ). first_or (Written 0) (piece_rows i left (pieces_of given_operands l)))
+    (drop_of_length-le ws h) ∙
     ap (λ (ps : List Piece). first_or (Written 0) (piece_rows i left ps)) (no_pieces given_operands)
 
 -- a mask that is not too long takes no more bytes than are left

@@ -134,7 +134,8 @@ turned ws i start h s b b' whole to many next taken m n t e r w =
     let q = left ws (next_piece ws i) (start + bytes_taken (piece_at ws i)) in
     let o = stored-words ws i start h l in
     rw (m, n, t) (
-      ap (λ (x : List ℕ). laid x (to + 1 + operands_of (get_or ws i 0)) q) e ∙ sym (piece-laid b to ws i start h l r) ∙ w,
+      ap (λ (x : List ℕ). laid x (to + 1 + operands_of (get_or ws i 0)) q) e ∙ sym (piece-laid b to ws i start h l r) ∙
+          w,
       (
         sound-next ws i start h s,
         omega (arith, r, o, ap length (left-first ws i start h), length-append p q),

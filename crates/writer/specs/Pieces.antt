@@ -1,6 +1,7 @@
 -- Command words cut into pieces, which are a kind and its operands (request 1). A mask is given as
 -- its kind and a length; in a script its start stands between the two.
-use Rattle.std.specs.Prelude.{◌≡◌, Bool, cond, ◌||◌, List, [], ◌∷◌, ◌++◌, ℕ, zero, suc, ◌+◌, eqb, length, take, drop, get_or}
+use Rattle.std.specs.Prelude.{◌≡◌, Bool, cond, ◌||◌, List, [], ◌∷◌, ◌++◌, ℕ, zero, suc, ◌+◌, eqb, length, take, drop}
+use Rattle.std.specs.Prelude.{get_or}
 use Rattle.commands.specs.Commands.{operands_of}
 
 pub record Piece : Type 0 where

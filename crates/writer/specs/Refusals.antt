@@ -1,6 +1,7 @@
 -- The writer's answer (request 1): refusals in their order, with nothing written, or the script at
 -- the start of the buffer, whose rest stands.
-use Rattle.std.specs.Prelude.{◌≡◌, Bool, true, false, not, ◌||◌, List, [], ◌∷◌, ◌++◌, ℕ, ◌+◌, ◌-◌, ◌≤◌, eqb, ltb, ℤ, pos, length}
+use Rattle.std.specs.Prelude.{◌≡◌, Bool, true, false, not, ◌||◌, List, [], ◌∷◌, ◌++◌, ℕ, ◌+◌, ◌-◌, ◌≤◌, eqb, ltb, ℤ}
+use Rattle.std.specs.Prelude.{pos, length}
 use Rattle.fixed.specs.declared.Fixed.{Fixed}
 use Rattle.fixed.specs.Fixed.{from_bits, less_f}
 use Rattle.zones.specs.declared.state.HintParams.{HintParams}

@@ -73,7 +73,8 @@ Reads other side bs =
 module _ (other : Bool) (side : Side) where
   read_one : (t : Bool) (b : Blue) (bs : List Blue) → Reads other side bs → (zs : List BlueZone) →
       less_f (height_of b) ZERO ≡ t → Steady other side (length zs) → length zs + suc (length bs) ≤ 12 →
-      read_in other (kept_in other (packed zs) b) bs ≡ packed (zs ++ map (zone_of side) (cond t (sift bs) (b ∷ sift bs)))
+      read_in other (kept_in other (packed zs) b) bs ≡ packed
+      (zs ++ map (zone_of side) (cond t (sift bs) (b ∷ sift bs)))
   unfolding kept_in
   read_one true b bs ih zs e k h = rw e (ih zs k (omega arith))
   read_one false b bs ih zs e k h =

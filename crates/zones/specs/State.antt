@@ -1,5 +1,6 @@
 -- The state that parameters and a scale make (01, "Zones").
-use Rattle.std.specs.Prelude.{Bool, true, false, cond, ◌&&◌, ◌||◌, List, [], map, eqb, leb, ℤ, pos, negsuc, neg_ℤ, length, get_or}
+use Rattle.std.specs.Prelude.{Bool, true, false, cond, ◌&&◌, ◌||◌, List, [], map, eqb, leb, ℤ, pos, negsuc, neg_ℤ}
+use Rattle.std.specs.Prelude.{length, get_or}
 use Rattle.fixed.specs.declared.Fixed.{Fixed}
 use Rattle.fixed.specs.Fixed.{from_bits, whole, ZERO, ONE, sub_f, div_f, mul_div_f, less_f, min_f}
 use Rattle.zones.specs.declared.blues.BlueZone.{BlueZone}

@@ -1,5 +1,6 @@
 -- Zones (01, "Zones"): the pairs, and what the first two steps and the last make of them.
-use Rattle.std.specs.Prelude.{Bool, true, false, cond, ◌&&◌, ◌||◌, List, [], ◌∷◌, ◌++◌, map, ℕ, ◌+◌, ◌-◌, eqb, length, take, drop, set, replicate}
+use Rattle.std.specs.Prelude.{Bool, true, false, cond, ◌&&◌, ◌||◌, List, [], ◌∷◌, ◌++◌, map, ℕ, ◌+◌, ◌-◌, eqb, length}
+use Rattle.std.specs.Prelude.{take, drop, set, replicate}
 use Rattle.fixed.specs.declared.Fixed.{Fixed}
 use Rattle.fixed.specs.Fixed.{ZERO, MAX, add_f, sub_f, neg_f, abs_f, mul_f, round_f, less_f, same_f, max_f}
 use Rattle.stems.specs.declared.edge.Side.{Side}
@@ -67,7 +68,8 @@ blues_zones (b ∷ bs) = zone_of Bottom b ∷ map (zone_of Top) bs
 
 -- blues in order, then the first five other blues, which are bottom zones
 unfoldable pub kept : Blues → Blues → List BlueZone
-kept blues others = blues_zones (sift (list_of blues)) ++ map (zone_of Bottom) (sift (take max_other_blues (list_of others)))
+kept blues others = blues_zones (sift (list_of blues)) ++ map (zone_of Bottom)
+    (sift (take max_other_blues (list_of others)))
 
 -- for step 3: the greatest height of some zones, or g if that is greater
 unfoldable pub greatest_from : Fixed → List BlueZone → Fixed

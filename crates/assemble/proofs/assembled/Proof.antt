@@ -30,7 +30,8 @@ module _ (c : tie.After-written) where
   room : 65544 ≤ length out
   room = begin.requires.1
 
-  answered : Wrote (answer_in input (take 65536 (drop 8 out))) found.answer_to-answer.result found.answer_to-answer.new.script
+  answered : Wrote (answer_in input (take 65536 (drop 8 out))) found.answer_to-answer.result
+      found.answer_to-answer.new.script
   answered = found.answer_to-answer.ensures
 
 sub-answer-to : tie.Need-slice_bounds-answer_to-count

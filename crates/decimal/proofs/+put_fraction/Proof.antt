@@ -1,5 +1,6 @@
 -- `put_fraction` puts the first digit of a fraction and calls itself for the rest. Assumes nothing.
-use Rattle.std.proofs.Common.{◌≡◌, ℕ, zero, suc, ◌+◌, ◌-◌, ◌*◌, ◌/◌, ◌%◌, ◌<◌, cond, eqb, [], ◌∷◌, refl, arith, rules, eq-eqb, ne_eqb}
+use Rattle.std.proofs.Common.{◌≡◌, ℕ, zero, suc, ◌+◌, ◌-◌, ◌*◌, ◌/◌, ◌%◌, ◌<◌, cond, eqb, [], ◌∷◌, refl, arith, rules}
+use Rattle.std.proofs.Common.{eq-eqb, ne_eqb}
 use borrow.Fn.Kinds.{In}
 use borrow.Fn.PlainCycle.{Measures, is, falls, and}
 use Rattle.decimal.specs.Decimal.{fraction_by}

@@ -1,6 +1,7 @@
 -- `put_decimal` puts a minus before the magnitude of a number below 0, which 32 bits hold. Assumes
 -- nothing.
-use Rattle.std.proofs.Common.{◌≡◌, ℕ, ◌+◌, ◌%◌, ◌^◌, ◌<◌, true, false, ◌∷◌, ℤ, pos, negsuc, ap, ◌∙◌, true≢false, arith, to_z-of_z, w32, SFits, rules, ltb-true}
+use Rattle.std.proofs.Common.{◌≡◌, ℕ, ◌+◌, ◌%◌, ◌^◌, ◌<◌, true, false, ◌∷◌, ℤ, pos, negsuc, ap, ◌∙◌, true≢false, arith}
+use Rattle.std.proofs.Common.{to_z-of_z, w32, SFits, rules, ltb-true}
 use lib.Signed.{lt_z}
 use Rattle.fixed.specs.Integers.{low_bits, bits_of}
 use Rattle.decimal.specs.Decimal.{size_text, decimal_text}

@@ -1,5 +1,6 @@
 -- `put_text` copies a text into the part that has its length. Assumes nothing.
-use Rattle.std.proofs.Common.{◌≡◌, ℕ, ◌+◌, ◌-◌, List, length, take, drop, refl, append-nil, arith, drop_of_length-le, length-take, drop-drop, rules}
+use Rattle.std.proofs.Common.{◌≡◌, ℕ, ◌+◌, ◌-◌, List, length, take, drop, refl, append-nil, arith, drop_of_length-le}
+use Rattle.std.proofs.Common.{length-take, drop-drop, rules}
 use borrow.Rule.Slice.PartMut.{mid_of, put_mid}
 use Rattle.words.specs.Bytes.{over, placed}
 use Rattle.decimal.proofs.put_text.Statement.{statement}

@@ -1,6 +1,7 @@
 -- `bits_of` meets its contract: of a number below 0 the complement of its complement, of any other
 -- itself. Assumes nothing.
-use Rattle.std.proofs.Common.{◌≡◌, ◌-◌, ◌<◌, true, false, ℤ, pos, negsuc, sym, true≢false, arith, to_z-of_z, w32, SFits, of_z, ltb-true}
+use Rattle.std.proofs.Common.{◌≡◌, ◌-◌, ◌<◌, true, false, ℤ, pos, negsuc, sym, true≢false, arith, to_z-of_z, w32, SFits}
+use Rattle.std.proofs.Common.{of_z, ltb-true}
 use lib.Signed.{lt_z}
 use mir.Facts.{to_z_pos, Fits-of_z}
 use Rattle.fixed.proofs.Bits.{whole-low}

@@ -1,6 +1,7 @@
 -- `nearest_div` meets its contract: half the divisor away from zero, then toward zero, is the
 -- nearest with halves away from zero. Assumes nothing.
-use Rattle.std.proofs.Common.{◌≡◌, ◌+◌, ◌/◌, ◌^◌, ◌<◌, true, false, pos, ◌+ℤ◌, ◌-ℤ◌, neg_ℤ, nat_abs, lt_of_le_of_lt, div-le_self, arith, to_z-of_z, w64, to_z, of_z, rules}
+use Rattle.std.proofs.Common.{◌≡◌, ◌+◌, ◌/◌, ◌^◌, ◌<◌, true, false, pos, ◌+ℤ◌, ◌-ℤ◌, neg_ℤ, nat_abs, lt_of_le_of_lt}
+use Rattle.std.proofs.Common.{div-le_self, arith, to_z-of_z, w64, to_z, of_z, rules}
 use lib.Signed.{lt_z}
 use mir.Facts.{to_z_pos}
 use Rattle.fixed.proofs.Nearest.{abs-fits, neg-fits, down_is, up_is, quot-neg, nearest-below, nearest-above}

@@ -1,6 +1,7 @@
 -- `size` meets its contract: the size of a 32-bit number, the least one included, fits 32 bits
 -- without a sign. Assumes nothing.
-use Rattle.std.proofs.Common.{◌≡◌, ◌≤◌, T, pos, ◌-ℤ◌, neg_ℤ, nat_abs, sym, ◌∙◌, subst, arith, to_z-of_z, w64, SFits, rules}
+use Rattle.std.proofs.Common.{◌≡◌, ◌≤◌, T, pos, ◌-ℤ◌, neg_ℤ, nat_abs, sym, ◌∙◌, subst, arith, to_z-of_z, w64, SFits}
+use Rattle.std.proofs.Common.{rules}
 use mathlib.Core.Bool as B
 use lib.IntN.{+ℤ_idl}
 use lib.Signed.{lt_z, nat_abs-le, yes_non_neg, lt_z_no}

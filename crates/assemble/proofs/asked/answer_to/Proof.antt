@@ -25,7 +25,8 @@ returns-2 c =
     let n = k.natural-commands.ensures.0 in
     let m = k.natural-masks.ensures.0 in
     not-looked a.input.now a.script.now
-    (many-masks a.input.now (omega (arith, n, c.if-commands-gt-MOST_COMMANDS.false)) (omega (arith, m, c.if-masks-gt-MOST_MASKS.true)))
+    (many-masks a.input.now (omega (arith, n, c.if-commands-gt-MOST_COMMANDS.false))
+    (omega (arith, m, c.if-masks-gt-MOST_MASKS.true)))
 
 write-asked-requires : tie.Need-write_asked-requires
 write-asked-requires c κs = search rules
@@ -40,7 +41,8 @@ returns-3 c =
     let k = e.before.before in
     let s = k.before.before.before.before in
     looked s.args.input.now s.args.script.now s.requires.1 k.natural-commands.ensures.0
-    k.natural-masks.ensures.0 (omega (arith, e.if-commands-gt-MOST_COMMANDS.false)) (omega (arith, e.if-masks-gt-MOST_MASKS.false))
+    k.natural-masks.ensures.0 (omega (arith, e.if-commands-gt-MOST_COMMANDS.false))
+    (omega (arith, e.if-masks-gt-MOST_MASKS.false))
     w.write_asked.ensures
 
 pub answer_to_spec : {M : Type 1} → statement M

@@ -1,11 +1,10 @@
 -- `is_uncovered` meets its contract, by its tests. Assumes nothing.
 use borrow.Author.Rules.{rules}
 use mathlib.Core.Path.{◌≡◌, sym, ap, ◌∙◌}
-use mathlib.Core.Bool.{Bool, true, false, ◌||◌}
+use mathlib.Core.Bool.{true, ◌||◌}
 use mathlib.Core.List.{List}
 use Prim.Native.Nat.{ℕ, ◌-◌, ◌≤◌}
 use native.Mathlib.Omega.{arith}
-use lib.Dec.{eqb}
 use lib.IntN.{ℤ}
 use borrow.Author.Tests.{ne_eqb}
 use Rattle.fixed.specs.declared.Fixed.{Fixed}
@@ -23,7 +22,8 @@ module _ (ls : List ℤ) (ts : List ℕ) (n : ℕ) (s : Fixed) (h : n ≤ 96) wh
   unfolding uncovered
   none z = rw (map-len ls ts n h s, z)
 
-  some : (n ≡ 0 → ⊥) → uncovered (map_in ls ts n s) ≡ (less_f ZERO (height_in ls 0) || less_f (height_in ls (n - 1)) ZERO)
+  some : (n ≡ 0 → ⊥) → uncovered (map_in ls ts n s) ≡ (less_f ZERO (height_in ls 0) || less_f (height_in ls (n - 1))
+      ZERO)
   unfolding uncovered
   some z =
       rw (

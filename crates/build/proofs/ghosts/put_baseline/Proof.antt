@@ -2,7 +2,6 @@
 use borrow.Author.Rules.{rules}
 use mathlib.Core.Path.{◌≡◌, sym, ap, ◌∙◌}
 use mathlib.Core.Bool.{Bool}
-use Rattle.hintmap.specs.declared.map.HintMap.{HintMap}
 use Rattle.hintmap.specs.Lent.{map_in}
 use Rattle.build.specs.Ghosts.{baseline_by, baselined}
 use Rattle.build.proofs.ghosts.put_baseline.Statement.{statement}

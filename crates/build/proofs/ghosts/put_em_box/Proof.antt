@@ -1,8 +1,7 @@
 -- `put_em_box` meets its contract, by those of its calls: its ghosts are locked. Assumes nothing.
 use borrow.Author.Rules.{rules}
-use mathlib.Core.Path.{◌≡◌, refl, sym, ap, ◌∙◌}
+use mathlib.Core.Path.{◌≡◌, refl, ap, ◌∙◌}
 use mathlib.Core.Bool.{Bool, true, false}
-use native.Mathlib.Omega.{arith}
 use Rattle.fixed.specs.declared.Fixed.{Fixed}
 use Rattle.stems.specs.declared.edge.Hint.{Hint}
 use Rattle.hintmap.specs.declared.map.HintMap.{HintMap}
@@ -17,13 +16,15 @@ use Rattle.build.proofs.ghosts.put_em_box.Statement.{statement}
 use Rattle.build.proofs.ghosts.put_em_box.Tie as tie
 
 -- the two ghosts inserted one after the other are the box, whatever initial map is given
-boxed : (s : Fixed) (initial : HintMap) (given : Bool) (one two : HintMap) (b t : Hint) → b ≡ em_bottom s → t ≡ em_top s →
+boxed : (s : Fixed) (initial : HintMap) (given : Bool) (one two : HintMap) (b t : Hint) → b ≡ em_bottom s →
+    t ≡ em_top s →
     one ≡ insert_in (new_map s) (One b) initial false → two ≡ insert_in one (One t) initial false →
     two ≡ em_boxed true initial given (new_map s)
 unfolding em_boxed em_bottom em_top
 boxed s initial given one two b t p q r w =
     w ∙ rw (r, p, q)
-    (insert-locked (insert_in (new_map s) (One (em_bottom s)) initial false) (One (em_top s)) initial initial given refl ∙
+    (insert-locked (insert_in (new_map s) (One (em_bottom s)) initial false) (One (em_top s)) initial initial given
+    refl ∙
     ap (λ (m : HintMap). insert_in m (One (em_top s)) initial given)
     (insert-locked (new_map s) (One (em_bottom s)) initial initial given refl))
 

@@ -12,9 +12,10 @@ use Rattle.hintmap.specs.declared.map.HintMap.{HintMap}
 use Rattle.hintmap.specs.Lent.{Lent, LinesOf}
 use Rattle.build.specs.Place.{Placed, free_turns}
 use Rattle.build.specs.Made.{placed_in}
-use Rattle.build.proofs.Rounds.{Left, free-round}
+use Rattle.build.proofs.Rounds.{free-round}
+use Rattle.build.proofs.Walks.{Rest, free-passing}
 use Rattle.build.proofs.Hops.{Ahead, Hop, hop-first, hop-on}
-use Rattle.build.proofs.Turns.{round-starts, round-goes, round-ends}
+use Rattle.build.proofs.Turns.{walk-starts, walk-goes, walk-ends}
 use Rattle.build.proofs.place.place_free.Statement.{statement}
 use Rattle.build.proofs.place.place_free.Tie as tie
 
@@ -22,11 +23,12 @@ abbrev invariant-loop : tie.invariant-loop-next
 invariant-loop lines₀ tags₀ start rest scale stems count base size s₀ len₀ left₀ next₀ lines tags len left next =
     Lent lines tags len × (Ahead (of_bytes left) (of_bytes rest) next × ((st : HintState) (initial : HintMap) →
     st.scale ≡ scale → initial.scale ≡ s₀ → LinesOf initial base size →
-    Left (free_turns st initial) (stems_in stems count) count (placed_in lines₀ tags₀ start scale rest)
+    Rest (free_turns st initial) (stems_in stems count) count (placed_in lines₀ tags₀ start scale rest)
     (placed_in lines tags len scale rest) next))
 
 abbrev decreases-loop : tie.decreases-loop-next
-decreases-loop lines₀ tags₀ start rest scale stems count base size s₀ len₀ left₀ next₀ lines tags len left next = count - next
+decreases-loop lines₀ tags₀ start rest scale stems count base size s₀ len₀ left₀ next₀ lines tags len left next = count
+    - next
 
 abbrev begin : (c : tie.At-loop-next invariant-loop decreases-loop) → tie.Start invariant-loop decreases-loop
 begin c = c.before.before.before.before
@@ -46,7 +48,8 @@ module _ (c : tie.After-put_free-len invariant-loop decreases-loop) where
   there = omega (arith, (begin at).requires.1.0, inside)
 
   -- the walk goes on
-  hops : Hop (of_bytes taken.take_first-next-in-loop-next.new.bytes) (of_bytes (begin at).args.rest.now) (at.loop-next.next + 1)
+  hops : Hop (of_bytes taken.take_first-next-in-loop-next.new.bytes) (of_bytes (begin at).args.rest.now)
+      (at.loop-next.next + 1)
       taken.take_first-next-in-loop-next.result
   hops = hop-on at.loop-next.invariant.1.0 there taken.take_first-next-in-loop-next.ensures (λ j d. refl)
 
@@ -56,7 +59,8 @@ loop-holds c =
       s.requires.0,
       (
         (hop-first c.take_first-next.ensures).ahead,
-        λ st initial p q h. round-starts (free-round st initial) _ _ s.requires.1.0 _ c.take_first-next.ensures,
+        λ st initial p q h. walk-starts (free-round st initial) (free-passing st initial) _ _ s.requires.1.0 _
+            c.take_first-next.ensures,
       ),
     )
 
@@ -73,7 +77,8 @@ loop-again c = (
   c.put_free-len.ensures.lent,
   (
     (hops c).ahead,
-    λ st initial p q h. round-goes (free-round st initial) _ _ (begin (at c)).requires.1.0 _ _ _ (inside c) (hops c)
+    λ st initial p q h. walk-goes (free-round st initial) (free-passing st initial) _ _ (begin (at c)).requires.1.0 _ _
+        _ (inside c) (hops c)
         (sym (c.put_free-len.ensures.placed st initial _ p q h ((at c).loop-next.invariant.1.0.active (there c))))
         ((at c).loop-next.invariant.1.1 st initial p q h),
   ),
@@ -85,12 +90,14 @@ returns c =
     record {
       lent = at.loop-next.invariant.0;
       map = λ st initial p q h. ap (λ (o : Placed). o.map)
-          (round-ends (free-round st initial) _ _ (begin at).requires.1.0 _ _ at.loop-next.next (search rules)
+          (walk-ends (free-round st initial) (free-passing st initial) _ _ (begin at).requires.1.0 _ _ at.loop-next.next
+          (search rules)
           (at.loop-next.invariant.1.1 st initial p q h));
     }
 
 pub place_free_spec : {M : Type 1} → statement M
 place_free_spec =
     tie.close
-    (tie.spec invariant-loop decreases-loop (λ c κs. search rules) loop-holds (λ c κs. search rules) put-free-requires loop-less
+    (tie.spec invariant-loop decreases-loop (λ c κs. search rules) loop-holds (λ c κs. search rules) put-free-requires
+    loop-less
     loop-again returns)

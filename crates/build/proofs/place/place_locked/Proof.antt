@@ -2,7 +2,7 @@
 -- has come to stem `next`, and whatever initial map is given, the turns that are left, taken from that
 -- stem on, give what all give. The measure is what is left of the count. Assumes nothing.
 use borrow.Author.Rules.{rules}
-use mathlib.Core.Path.{◌≡◌, sym}
+use mathlib.Core.Path.{sym}
 use mathlib.Core.Bool.{Bool, false}
 use Prim.Native.Nat.{◌+◌, ◌-◌, ◌<◌}
 use native.Mathlib.Omega.{arith}
@@ -15,16 +15,17 @@ use Rattle.hintmap.specs.Map.{new_map}
 use Rattle.hintmap.specs.Lent.{Lent}
 use Rattle.build.specs.Place.{Placed, locked_turns}
 use Rattle.build.specs.Made.{placed_in}
-use Rattle.build.proofs.Rounds.{Left, locked-round}
+use Rattle.build.proofs.Rounds.{locked-round}
+use Rattle.build.proofs.Walks.{Rest, locked-passing}
 use Rattle.build.proofs.Hops.{Ahead, Hop, hop-first}
-use Rattle.build.proofs.Turns.{round-starts, round-hops, round-goes, round-ends}
+use Rattle.build.proofs.Turns.{walk-starts, walk-hops, walk-goes, walk-ends}
 use Rattle.build.proofs.place.place_locked.Statement.{statement}
 use Rattle.build.proofs.place.place_locked.Tie as tie
 
 abbrev invariant-loop : tie.invariant-loop-next
 invariant-loop lines₀ tags₀ start rest₀ gauge zones stems count len₀ active₀ next₀ lines tags rest len active next =
     Lent lines tags len × (Ahead (of_bytes active) (of_bytes rest) next × ((initial : HintMap) (given : Bool) →
-    Left (locked_turns (state_in gauge zones) initial given) (stems_in stems count) count
+    Rest (locked_turns (state_in gauge zones) initial given) (stems_in stems count) count
     (placed_in lines₀ tags₀ start gauge.scale rest₀) (placed_in lines tags len gauge.scale rest) next))
 
 abbrev decreases-loop : tie.decreases-loop-next
@@ -52,10 +53,12 @@ module _ (c : tie.After-put_locked-len invariant-loop decreases-loop) where
   inside = taken.loop-next-test.true
 
   -- the walk goes on, and it does not matter by which initial map
-  hops : Hop (of_bytes taken.take_first-next-in-loop-next.new.bytes) (of_bytes c.put_locked-len.new.rest) (at.loop-next.next + 1)
+  hops : Hop (of_bytes taken.take_first-next-in-loop-next.new.bytes) (of_bytes c.put_locked-len.new.rest)
+      (at.loop-next.next + 1)
       taken.take_first-next-in-loop-next.result
   hops =
-      round-hops (locked-round (st at) (new_map (st at).scale) false) (begin at).args.stems.now
+      walk-hops (locked-round (st at) (new_map (st at).scale) false)
+      (locked-passing (st at) (new_map (st at).scale) false) (begin at).args.stems.now
       (begin at).args.count (begin at).requires.1 so_far so_far _ inside at.loop-next.invariant.1.0
       taken.take_first-next-in-loop-next.ensures (sym (c.put_locked-len.ensures.placed (new_map (st at).scale) false))
 
@@ -65,7 +68,8 @@ loop-holds c =
       s.requires.0,
       (
         (hop-first c.take_first-next.ensures).ahead,
-        λ initial given. round-starts (locked-round (state_in s.args.gauge s.args.zones.now) initial given)
+        λ initial given. walk-starts (locked-round (state_in s.args.gauge s.args.zones.now) initial given)
+            (locked-passing (state_in s.args.gauge s.args.zones.now) initial given)
             _ _ s.requires.1 _ c.take_first-next.ensures,
       ),
     )
@@ -85,7 +89,8 @@ loop-again c = (
   c.put_locked-len.ensures.lent,
   (
     (hops c).ahead,
-    λ initial given. round-goes (locked-round (st (at c)) initial given) _ _ (begin (at c)).requires.1 _ _ _ (inside c)
+    λ initial given. walk-goes (locked-round (st (at c)) initial given) (locked-passing (st (at c)) initial given) _ _
+        (begin (at c)).requires.1 _ _ _ (inside c)
         (hops c) (sym (c.put_locked-len.ensures.placed initial given)) ((at c).loop-next.invariant.1.1 initial given),
   ),
 )
@@ -95,12 +100,14 @@ returns c =
     let at = c.before in
     record {
       lent = at.loop-next.invariant.0;
-      placed = λ initial given. round-ends (locked-round (st at) initial given) _ _ (begin at).requires.1 _ _
+      placed = λ initial given. walk-ends (locked-round (st at) initial given) (locked-passing (st at) initial given) _
+          _ (begin at).requires.1 _ _
           at.loop-next.next (search rules) (at.loop-next.invariant.1.1 initial given);
     }
 
 pub place_locked_spec : {M : Type 1} → statement M
 place_locked_spec =
     tie.close
-    (tie.spec invariant-loop decreases-loop (λ c κs. search rules) loop-holds (λ c κs. search rules) put-locked-requires loop-less
+    (tie.spec invariant-loop decreases-loop (λ c κs. search rules) loop-holds (λ c κs. search rules) put-locked-requires
+    loop-less
     loop-again returns)

@@ -5,16 +5,13 @@ use borrow.Author.Rules.{rules}
 use mathlib.Core.Path.{◌≡◌, refl, sym, ap, ◌∙◌}
 use mathlib.Core.Bool.{false}
 use mathlib.Core.List.{List}
-use mathlib.Core.Logic.{⊎_elim}
 use Prim.Native.Nat.{ℕ, ◌+◌, ◌-◌, ◌≤◌, ◌<◌}
 use native.Mathlib.Omega.{arith}
 use lib.IntN.{ℤ}
-use lib.ListN.{length, drop, get_or}
+use lib.ListN.{length, drop}
 use Rattle.stems.specs.declared.edge.Hint.{Hint}
 use Rattle.stems.specs.declared.edge.StemHint.{StemHint}
-use Rattle.stems.specs.declared.edge.Stems.{Stems}
-use Rattle.stems.specs.Edge.{no_hint}
-use Rattle.stems.specs.Lists.{hint_in, held, stem_in, stems_in, set_stem}
+use Rattle.stems.specs.Lists.{held, stem_in, stems_in, set_stem}
 use Rattle.stems.proofs.Places.{stem-in, stems-long, stem-put, set_long}
 use Rattle.hintmap.proofs.Lent.{held-length, held_at}
 use Rattle.build.specs.Build.{saved_stem, saved_in, saved_all, no_stem}

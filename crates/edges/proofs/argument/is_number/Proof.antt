@@ -57,5 +57,6 @@ returns-4 c =
 pub is_number_spec : {M : Type 1} → statement M
 is_number_spec =
     tie.close
-    (tie.spec invariant-loop decreases-loop returns loop-holds (λ c. search rules) returns-2 (λ c. search rules) returns-3
+    (tie.spec invariant-loop decreases-loop returns loop-holds (λ c. search rules) returns-2 (λ c. search rules)
+    returns-3
     (λ c. search rules) (λ c. search rules) loop-again returns-4)

@@ -53,5 +53,6 @@ returns c =
 pub number_in_spec : {M : Type 1} → statement M
 number_in_spec =
     tie.close
-    (tie.spec invariant-loop decreases-loop loop-holds (λ c. search rules) (λ c. search rules) (λ c κs. search rules) add-least
+    (tie.spec invariant-loop decreases-loop loop-holds (λ c. search rules) (λ c. search rules) (λ c κs. search rules)
+    add-least
     (λ c κs. search rules) (λ c. search rules) (λ c. search rules) loop-again returns)

@@ -1,5 +1,6 @@
 -- `put_map` puts a line a record, then the counts. Assumes nothing.
-use Rattle.std.proofs.Common.{◌≡◌, ℕ, ◌+◌, ◌*◌, ◌≤◌, ◌<◌, List, ◌++◌, length, take, sym, ap, ◌∙◌, arith, rules, w8, w32, Fits, SFits}
+use Rattle.std.proofs.Common.{◌≡◌, ℕ, ◌+◌, ◌*◌, ◌≤◌, ◌<◌, List, ◌++◌, length, take, sym, ap, ◌∙◌, arith, rules, w8, w32}
+use Rattle.std.proofs.Common.{Fits, SFits}
 use lib.Seq.{take_all}
 use Rattle.hintmap.specs.declared.map.HintMap.{HintMap}
 use Rattle.listing.specs.declared.record.EdgeRecord.{EdgeRecord}

@@ -16,7 +16,8 @@ returns : tie.Need-returns
 unfolding mul_f
 returns c =
     let s = c.before.before.before in
-    ap from_bits (read w32 c.ratio.result c.ratio.type_inv ∙ c.ratio.ensures ∙ simp (to_z-of_z (fs s), to_z-of_z (fb s)))
+    ap from_bits (read w32 c.ratio.result c.ratio.type_inv ∙ c.ratio.ensures ∙ simp
+    (to_z-of_z (fs s), to_z-of_z (fb s)))
 
 pub mul_spec : {M : Type 1} → statement M
 mul_spec = tie.close (tie.spec (λ c κs. search rules) returns)

@@ -59,7 +59,8 @@ at7 : (c : tie.Else-masks-commands) → Past (header_rows (script5 c.before.befo
 unfolding header_rows
 at7 c = pass 6 (at6 c.before.before) (omega tests)
 
-at8 : (c : tie.Else-masks-mask_bytes) → Past (header_rows (script5 c.before.before.before.before.before.before.before.before))
+at8 : (c : tie.Else-masks-mask_bytes) → Past (header_rows (script5
+    c.before.before.before.before.before.before.before.before))
     8
 unfolding header_rows
 at8 c =

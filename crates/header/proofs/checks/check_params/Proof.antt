@@ -36,7 +36,8 @@ at3 : (c : tie.Else-others-gt-MAX_BLUES) → Past (param_rows (raw_at (script c.
 unfolding param_rows
 at3 c = pass 2 (at2 c.before.before) (omega tests)
 
-at4 : (c : tie.Else-family-gt-MAX_BLUES) → Past (param_rows (raw_at (script c.before.before.before.before.before.before))) 4
+at4 : (c : tie.Else-family-gt-MAX_BLUES) → Past (param_rows (raw_at
+    (script c.before.before.before.before.before.before))) 4
 unfolding param_rows
 at4 c = pass 3 (at3 c.before.before) (omega tests)
 

@@ -54,5 +54,6 @@ returns-2 c =
 pub reached_spec : {M : Type 1} → statement M
 reached_spec =
     tie.close
-    (tie.spec invariant-loop decreases-loop (λ c. (omega arith, λ j l. absurd (omega arith))) (λ c. omega arith) (λ c. omega arith)
+    (tie.spec invariant-loop decreases-loop (λ c. (omega arith, λ j l. absurd (omega arith))) (λ c. omega arith)
+    (λ c. omega arith)
     (λ c κs. search rules) (λ c κs. search rules) returns (λ c. omega arith) (λ c. omega arith) loop-again returns-2)

@@ -50,5 +50,6 @@ returns-2 c =
 pub place_of_spec : {M : Type 1} → statement M
 place_of_spec =
     tie.close
-    (tie.spec invariant-loop decreases-loop (λ c. (omega arith, λ l. absurd (omega arith))) (λ c. search rules) (λ c κs. search rules)
+    (tie.spec invariant-loop decreases-loop (λ c. (omega arith, λ l. absurd (omega arith))) (λ c. search rules)
+    (λ c κs. search rules)
     (λ c κs. search rules) returns (λ c. search rules) (λ c. omega arith) loop-again returns-2)

@@ -15,7 +15,8 @@ use Rattle.hints.proofs.path.draw_by_lines.Tie as tie
 
 -- a call draws what an equal one asks
 drawn-as : (m : HintMap) (s : Fixed) (from : Pen) {path asked : Path} {out left : List ℤ} {said : Drawn} →
-    path ≡ asked → Drew (stroke_by m s from asked) from out said left → Drew (stroke_by m s from path) from out said left
+    path ≡ asked → Drew (stroke_by m s from asked) from out said left → Drew (stroke_by m s from path) from out said
+    left
 drawn-as m s from e h = rw e h
 
 returns : tie.Need-returns-in-Move

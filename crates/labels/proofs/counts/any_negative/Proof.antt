@@ -47,5 +47,6 @@ returns-2 c =
 pub any_negative_spec : {M : Type 1} → statement M
 any_negative_spec =
     tie.close
-    (tie.spec invariant-loop decreases-loop loop-holds (λ c κs. search rules) returns (λ c. search rules) (λ c. omega arith)
+    (tie.spec invariant-loop decreases-loop loop-holds (λ c κs. search rules) returns (λ c. search rules)
+    (λ c. omega arith)
     loop-again returns-2)

@@ -42,5 +42,6 @@ returns c =
 pub sum_from_spec : {M : Type 1} → statement M
 sum_from_spec =
     tie.close
-    (tie.spec invariant-loop decreases-loop loop-holds (λ c κs. search rules) add-sum (λ c. omega arith) (λ c. omega arith) loop-again
+    (tie.spec invariant-loop decreases-loop loop-holds (λ c κs. search rules) add-sum (λ c. omega arith)
+    (λ c. omega arith) loop-again
     returns)

@@ -99,7 +99,12 @@ add-words-end c =
     omega (arith, s.well_formed.0, t.loop-at.invariant.0.walks.of_words, c.size_at.ensures.1.0)
 
 add-bytes-end : tie.Need-overflow_add-bytes_end invariant-loop decreases-loop
-add-bytes-end c = omega (arith, (begin c).well_formed.1.0, (turn c).loop-at.invariant.0.walks.of_bytes, c.size_at-in-loop-at.ensures.1.0)
+add-bytes-end c = omega (
+  arith,
+  (begin c).well_formed.1.0,
+  (turn c).loop-at.invariant.0.walks.of_bytes,
+  c.size_at-in-loop-at.ensures.1.0,
+)
 
 fill-glyph-requires : tie.Need-fill_glyph-words-requires invariant-loop decreases-loop
 fill-glyph-requires c κs =
@@ -157,7 +162,8 @@ returns c =
 pub fill_spec : {M : Type 1} → statement M
 fill_spec =
     tie.close
-    (tie.spec invariant-loop decreases-loop (λ c κs. search rules) (λ c κs. search rules) put-two-requires (λ c. search rules)
+    (tie.spec invariant-loop decreases-loop (λ c κs. search rules) (λ c κs. search rules) put-two-requires
+    (λ c. search rules)
     loop-holds (λ c κs. c.loop-at-test.true) add-words-end (λ c. search rules)
     (λ c κs. both-there c.loop-at.invariant.0.walks c.loop-at-test.true) add-bytes-end
     (λ c. omega arith) (λ c. omega arith) (λ c. (inside c).1) (λ c. search rules) (λ c. omega arith) (λ c. omega arith)

@@ -25,7 +25,8 @@ returns : tie.Need-returns-then-scale-lt1
 unfolding open_rows first_or
 returns c =
     let e : less_f c.args.scale (from_bits (pos 1)) ≡ true =
-    subst (λ (z : ℤ). less_f (from_bits z) (from_bits (pos 1)) ≡ true) (to_z-of_z (fits c.before)) c.if-scale-lt1.true in
+    subst (λ (z : ℤ). less_f (from_bits z) (from_bits (pos 1)) ≡ true) (to_z-of_z (fits c.before)) c.if-scale-lt1.true
+    in
     rw e
 
 returns-2 : tie.Need-returns-then-not-counts_fit

@@ -88,7 +88,8 @@ module _ (c : tie.After-code-2) where
 returns-3 : tie.Need-returns-then-code-ne0-2
 returns-3 c =
     let m = c.before in
-    labelled-nothing (given (start (fine m))) (out m) (answered m) (omega (arith, c.if-code-ne0-2.true, m.code-2.ensures))
+    labelled-nothing (given (start (fine m))) (out m) (answered m)
+    (omega (arith, c.if-code-ne0-2.true, m.code-2.ensures))
 
 -- and nothing is refused
 module _ (c : tie.Else-code-ne0-2) where

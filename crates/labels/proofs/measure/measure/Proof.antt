@@ -24,7 +24,8 @@ invariant-loop commands masks lengths room header taken₀ glyph₀ at₀ word�
     Measuring lengths commands masks room taken glyph at word byte
 
 abbrev decreases-loop : tie.decreases-loop-at
-decreases-loop commands masks lengths room header taken₀ glyph₀ at₀ word₀ byte₀ taken glyph at word byte = length lengths - at
+decreases-loop commands masks lengths room header taken₀ glyph₀ at₀ word₀ byte₀ taken glyph at word byte = length
+    lengths - at
 
 -- at a glyph, whose two lengths are read
 module _ (c : tie.After-size_at-in-loop-at invariant-loop decreases-loop) where
@@ -90,7 +91,12 @@ add-words-end c =
     omega (arith, t.well_formed.0, t.loop-at.invariant.walks.of_words, c.size_at.ensures.1.0)
 
 add-bytes-end : tie.Need-overflow_add-bytes_end invariant-loop decreases-loop
-add-bytes-end c = omega (arith, (begin c).well_formed.1.0, (turn c).loop-at.invariant.walks.of_bytes, c.size_at-in-loop-at.ensures.1.0)
+add-bytes-end c = omega (
+  arith,
+  (begin c).well_formed.1.0,
+  (turn c).loop-at.invariant.walks.of_bytes,
+  c.size_at-in-loop-at.ensures.1.0,
+)
 
 survey-requires : tie.Need-survey-seen-requires invariant-loop decreases-loop
 survey-requires c κs =
@@ -101,8 +107,18 @@ survey-requires c κs =
     let ms = (begin l).args.masks.now in
     let n = l.size_at.result in
     let m = l.size_at-in-loop-at.result in (
-      omega (arith, (short l).0, length-take-le (w + n - w) (drop w cs) (omega (arith, (inside l).0, length-drop w cs))),
-      omega (arith, (short l).1, length-take-le (b + m - b) (drop b ms) (omega (arith, (inside l).1, length-drop b ms))),
+      omega (
+        arith,
+        (short l).0,
+        length-take-le (w + n - w) (drop w cs)
+            (omega (arith, (inside l).0, length-drop w cs)),
+      ),
+      omega (
+        arith,
+        (short l).1,
+        length-take-le (b + m - b) (drop b ms)
+            (omega (arith, (inside l).1, length-drop b ms)),
+      ),
     )
 
 add-glyph : tie.Need-overflow_add-glyph invariant-loop decreases-loop

@@ -116,6 +116,7 @@ returns-2 c =
 pub survey_spec : {M : Type 1} → statement M
 survey_spec =
     tie.close
-    (tie.spec invariant-loop decreases-loop (λ c κs. search rules) loop-holds (λ c κs. search rules) (λ c κs. search rules)
+    (tie.spec invariant-loop decreases-loop (λ c κs. search rules) loop-holds (λ c κs. search rules)
+    (λ c κs. search rules)
     (λ c κs. search rules) returns (λ c. search rules) (λ c. search rules) loop-less loop-again (λ c κs. search rules)
     add-count loop-less-2 loop-again-2 returns-2)

@@ -16,7 +16,8 @@ record_at-record-requires c =
 pub offset_bounds-list-i : goal.offset_bounds-list-i
 offset_bounds-list-i c =
     let m = c.args.map in
-    let s = listed-stand m (length c.args.list.now) (held-long m c.well_formed.0.1.1.0.1.0.1) c.loop-i.i (omega arith) in
+    let s = listed-stand m (length c.args.list.now) (held-long m c.well_formed.0.1.1.0.1.0.1) c.loop-i.i (omega arith)
+    in
     omega (arith, s.0)
 
 pub bounds-list-i : goal.bounds-list-i

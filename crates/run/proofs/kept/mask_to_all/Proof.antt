@@ -28,5 +28,6 @@ returns c =
 pub mask_to_all_spec : {M : Type 1} → statement M
 mask_to_all_spec =
     tie.close
-    (tie.spec invariant-loop decreases-loop (λ c. (omega arith, (c.requires, refl))) (λ c. search rules) (λ c. search rules)
+    (tie.spec invariant-loop decreases-loop (λ c. (omega arith, (c.requires, refl))) (λ c. search rules)
+    (λ c. search rules)
     (λ c. search rules) loop-again returns)

@@ -29,13 +29,15 @@ use Rattle.run.proofs.running.run_by.Statement.{statement}
 use Rattle.run.proofs.running.run_by.Tie as tie
 
 abbrev invariant-loop : tie.invariant-loop-at
-invariant-loop script part words as-words first n from gauge zones stems₀ initial₀ map₀ tags₀ notes₀ out₀ mask₀ sizes₀ pen₀
+invariant-loop script part words as-words first n from gauge zones stems₀ initial₀ map₀ tags₀ notes₀ out₀ mask₀ sizes₀
+    pen₀
     next₀ at₀ stems initial map tags notes out mask sizes pen next at =
     Running (state_in gauge zones) script (word_by as-words part words) first n from out₀ mask stems initial map tags
     sizes pen next at out × NoteRoom notes
 
 abbrev decreases-loop : tie.decreases-loop-at
-decreases-loop script part words as-words first n from gauge zones stems₀ initial₀ map₀ tags₀ notes₀ out₀ mask₀ sizes₀ pen₀
+decreases-loop script part words as-words first n from gauge zones stems₀ initial₀ map₀ tags₀ notes₀ out₀ mask₀ sizes₀
+    pen₀
     next₀ at₀ stems initial map tags notes out mask sizes pen next at =
     2 * (n - at) + unready sizes.valid
 

@@ -86,7 +86,8 @@ returns-3 c =
       c.natural-count.ensures.0,
       c.natural-bytes.ensures.0,
     ) at (says_is c.check_commands.ensures) ∙
-    sym (onward Ok (header_rows s) (param_rows (raw_at s) ++ command_rows (raw_at s 7) (commands_in s)) (header-refusing s)
+    sym (onward Ok (header_rows s) (param_rows (raw_at s) ++ command_rows (raw_at s 7) (commands_in s))
+    (header-refusing s)
     (header_ok h) ∙ onward Ok (param_rows (raw_at s)) (command_rows (raw_at s 7) (commands_in s)) (params-refusing s)
     (params_ok e))
 

@@ -84,8 +84,14 @@ loop-again c =
     let k = sized c ∙ sym (ap size_of (get_or-take end o l.loop-at.at (pos 0) c.loop-at-test.true)) in
     let s = count-step ws l.loop-at.at (omega (arith, n)) ∙
     ap (λ (r : ℕ). suc (records_in (drop (l.loop-at.at + r) ws))) (sym k) in
-    let z = sizes (get_or o l.loop-at.at (pos 0)) in
-    (omega (arith, l.loop-at.invariant.0, s), (omega (arith, l.loop-at.invariant.1.0, sized c, z), omega (arith, sized c, z)))
+    let z = sizes (get_or o l.loop-at.at (pos 0)) in (
+      omega (arith, l.loop-at.invariant.0, s),
+      (
+        omega (arith, l.loop-at.invariant.1.0, sized c, z),
+        omega
+            (arith, sized c, z),
+      ),
+    )
 
 returns : tie.Need-returns invariant-loop decreases-loop
 returns c =

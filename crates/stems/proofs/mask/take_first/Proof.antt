@@ -65,7 +65,8 @@ loop-again c =
       (at r.before).loop-k.invariant.0,
       (
         omega arith,
-        (at r.before).loop-k.invariant.1.1 ∙ search-on (mask r.before) (k r.before) r.first_set-bit.ensures (search rules) c.if-bit-lt8.false,
+        (at r.before).loop-k.invariant.1.1 ∙ search-on (mask r.before) (k r.before) r.first_set-bit.ensures
+            (search rules) c.if-bit-lt8.false,
       ),
     )
 

@@ -9,7 +9,8 @@ use Rattle.test_maps.proofs.maps.put_stems.Statement.{statement}
 use Rattle.test_maps.proofs.maps.put_stems.Tie as tie
 
 abbrev invariant-loop : tie.invariant-loop-i
-invariant-loop lines₀ tags₀ row at scale initial size given count len₀ i₀ lines tags len i = Lent lines tags len × (i ≤ count)
+invariant-loop lines₀ tags₀ row at scale initial size given count len₀ i₀ lines tags len i = Lent lines tags len ×
+    (i ≤ count)
 
 abbrev decreases-loop : tie.decreases-loop-i
 decreases-loop lines₀ tags₀ row at scale initial size given count len₀ i₀ lines tags len i = count - i

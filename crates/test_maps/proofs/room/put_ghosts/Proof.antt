@@ -29,5 +29,6 @@ returns c = c.loop-i.invariant.0
 pub put_ghosts_spec : {M : Type 1} → statement M
 put_ghosts_spec =
     tie.close
-    (tie.spec invariant-loop decreases-loop loop-holds (λ c κs. search rules) (λ c κs. search rules) insert-edges-requires
+    (tie.spec invariant-loop decreases-loop loop-holds (λ c κs. search rules) (λ c κs. search rules)
+    insert-edges-requires
     (λ c κs. search rules) (λ c. search rules) (λ c. search rules) loop-again returns)

@@ -5,62 +5,62 @@ use Rattle.test_scripts.proofs.Outcomes.{words-within, bytes-within, not-read, r
 use Rattle.test_scripts.proofs.again.write_again.Statement.{statement}
 use Rattle.test_scripts.proofs.again.write_again.Tie as tie
 
-read-back-requires : tie.Need-read-back-requires
+read-back-requires : tie.Need-read_back-back-requires
 read-back-requires c κs = search rules
 
 code-requires : tie.Need-code-requires
 code-requires c κs = search rules
 
-same_length : tie.Need-same-length
+same_length : tie.Need-shape_of-commands-then-code-ne0
 same_length c = search rules
 
-same-length-2 : tie.Need-same-length-2
+same-length-2 : tie.Need-shape_of-masks-then-code-ne0
 same-length-2 c = search rules
 
-returns : tie.Need-returns
+returns : tie.Need-returns-then-code-ne0
 returns c =
-    let r = c.before.before.before.before.before in
-    not-read _ _ _ r.read_back.ensures _ (omega (arith, c.before.code.ensures, c.if1.true))
+    let r = c in
+    not-read _ _ _ r.read_back-back.ensures _ (omega (arith, c.code.ensures, c.if-code-ne0.true))
 
-slice-reshare-prefix-write-script : tie.Need-slice-reshare-prefix-write-script
+slice-reshare-prefix-write-script : tie.Need-slice_bounds-write_script-end
 slice-reshare-prefix-write-script c =
-    words-within _ _ _ c.before.before.before.before.before.read_back.ensures
+    words-within _ _ _ c.read_back-back.ensures
 
-slice-aggregate-write-script : tie.Need-slice-aggregate-write-script
-slice-aggregate-write-script c = sym (length-take-le _ _ (slice-reshare-prefix-write-script c.before))
+slice-aggregate-write-script : tie.Need-slice_bounds-write_script-end-2
+slice-aggregate-write-script c = sym (length-take-le _ _ (words-within _ _ _ c.read_back-back.ensures))
 
-slice-reshare-prefix-write-script-2 : tie.Need-slice-reshare-prefix-write-script-2
+slice-reshare-prefix-write-script-2 : tie.Need-slice_bounds-write_script-end-3
 slice-reshare-prefix-write-script-2 c =
-    bytes-within _ _ _ c.before.before.before.before.before.before.read_back.ensures
+    bytes-within _ _ _ c.read_back-back.ensures
 
-slice-aggregate-write-script-2 : tie.Need-slice-aggregate-write-script-2
-slice-aggregate-write-script-2 c = sym (length-take-le _ _ (slice-reshare-prefix-write-script-2 c.before))
+slice-aggregate-write-script-2 : tie.Need-slice_bounds-write_script-end-4
+slice-aggregate-write-script-2 c = sym (length-take-le _ _ (bytes-within _ _ _ c.read_back-back.ensures))
 
-write-script-requires : tie.Need-write-script-requires
+write-script-requires : tie.Need-write_script-said-requires
 write-script-requires c κs = search rules
 
 compared-requires : tie.Need-compared-requires
 compared-requires c κs = search rules
 
-same-length-3 : tie.Need-same-length-3
+same-length-3 : tie.Need-shape_of-commands
 same-length-3 c = search rules
 
-same-length-4 : tie.Need-same-length-4
+same-length-4 : tie.Need-shape_of-masks
 same-length-4 c = search rules
 
-same-length-5 : tie.Need-same-length-5
+same-length-5 : tie.Need-shape_of-written
 same-length-5 c = search rules
 
-returns-2 : tie.Need-returns-2
+returns-2 : tie.Need-returns
 returns-2 c =
-    let w = c.before.before.before.before in
-    let e = w.before.before.before.before in
-    let r = e.before.before.before.before.before in
-    read-and-written _ _ _ r.read_back.ensures _ (sym e.before.code.ensures ∙ e.if1.false)
-    w.write-script.ensures c.compared.ensures
+    let w = c in
+    let e = w in
+    let r = e in
+    read-and-written _ _ _ r.read_back-back.ensures _ (sym e.code.ensures ∙ e.if-code-ne0.false)
+    w.write_script-said.ensures c.compared.ensures
 
-pub write-again-spec : {M : Type 1} → statement M
-write-again-spec =
+pub write_again_spec : {M : Type 1} → statement M
+write_again_spec =
     tie.close
     (tie.spec
     read-back-requires

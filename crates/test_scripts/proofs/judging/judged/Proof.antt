@@ -12,28 +12,28 @@ use Rattle.test_scripts.proofs.judging.judged.Statement.{statement}
 use Rattle.test_scripts.proofs.judging.judged.Tie as tie
 
 -- what the run leaves, of the words that are lent
-ran : (c : tie.After-run-script) →
-    Scripted (script_of c.before.before.before.before.before.before.before.before.before.args.script.now
-    (lent (number_at (raw_at c.before.before.before.before.before.before.before.before.before.args.head.now)
-    2) (length c.before.before.before.before.before.before.before.before.before.args.out.now)
-    c.before.before.before.before.before.before.before.before.before.args.out.now))
-    c.run-script.result c.run-script.new.1.0
+ran : (c : tie.After-run_script-answer) →
+    Scripted (script_of c.args.script.now
+    (lent (number_at (raw_at c.args.head.now)
+    2) (length c.args.out.now)
+    c.args.out.now))
+    c.run_script-answer.result c.run_script-answer.new.out
 ran c =
-    let n = c.before.before.before.before in
-    let a = n.before.before.before.before.before.args in
-    let e = c.before.before.before.lend.ensures ∙
+    let n = c in
+    let a = n.args in
+    let e = c.lend.ensures ∙
     ap (λ (f : Fixed). lent f (length a.out.now) a.out.now) n.number.ensures in
-    rw e at c.run-script.ensures
+    rw e at c.run_script-answer.ensures
 
-number-agrees : (c : tie.Else1) →
-    number_of c.before.before.before.before.run-script.result ≡
-    raw_at c.before.before.before.before.before.before.before.before.before.before.before.before.before.args.head.now 4
-number-agrees c = sym c.before.before.code.ensures ∙ c.if1.false ∙ c.before.natural.ensures.0
+number-agrees : (c : tie.Else-code-natural) →
+    number_of c.run_script-answer.result ≡
+    raw_at c.args.head.now 4
+number-agrees c = sym c.code.ensures ∙ c.if-code-natural.false ∙ c.natural.ensures.0
 
-place-agrees : (c : tie.Else2) →
-    place_of c.before.before.before.before.before.before.before.run-script.result ≡
-    raw_at c.before.before.before.before.before.before.before.before.before.before.before.before.before.before.before.before.args.head.now 5
-place-agrees c = sym c.before.before.place.ensures ∙ c.if2.false ∙ c.before.natural2.ensures.0
+place-agrees : (c : tie.Else-place-natural) →
+    place_of c.run_script-answer.result ≡
+    raw_at c.args.head.now 5
+place-agrees c = sym c.place.ensures ∙ c.if-place-natural.false ∙ c.natural-2.ensures.0
 
 number-requires : tie.Need-number-requires
 number-requires c κs = search rules
@@ -41,25 +41,25 @@ number-requires c κs = search rules
 lend-requires : tie.Need-lend-requires
 lend-requires c κs = search rules
 
-run-script-requires : tie.Need-run-script-requires
+run-script-requires : tie.Need-run_script-answer-requires
 run-script-requires c κs = search rules
 
 code-requires : tie.Need-code-requires
 code-requires c κs = search rules
 
-cast-if1 : tie.Need-overflow-cast-if1
+cast-if1 : tie.Need-overflow_cast-code
 cast-if1 c = search rules
 
 natural-requires : tie.Need-natural-requires
 natural-requires c κs = search rules
 
-same_length : tie.Need-same-length
+same_length : tie.Need-shape_of-out-then-code-natural
 same_length c = search rules
 
-returns : tie.Need-returns
+returns : tie.Need-returns-then-code-natural
 returns c =
     other-number _ _ _ _ _ (ran c.before.before.before.before)
-    (λ e. c.if1.true (c.before.before.code.ensures ∙ e ∙ sym c.before.natural.ensures.0))
+    (λ e. c.if-code-natural.true (c.code.ensures ∙ e ∙ sym c.natural.ensures.0))
 
 place-requires : tie.Need-place-requires
 place-requires c κs = search rules
@@ -67,42 +67,42 @@ place-requires c κs = search rules
 natural-requires-2 : tie.Need-natural-requires-2
 natural-requires-2 c κs = search rules
 
-same-length-2 : tie.Need-same-length-2
+same-length-2 : tie.Need-shape_of-out-then-place-natural
 same-length-2 c = search rules
 
-returns-2 : tie.Need-returns-2
+returns-2 : tie.Need-returns-then-place-natural
 returns-2 c =
     let n = c.before.before.before in
     other_place _ _ _ _ _ (ran n.before.before.before.before) (number-agrees n)
-    (λ e. c.if2.true (c.before.before.place.ensures ∙ e ∙ sym c.before.natural2.ensures.0))
+    (λ e. c.if-place-natural.true (c.place.ensures ∙ e ∙ sym c.natural-2.ensures.0))
 
-first-word-requires : tie.Need-first-word-requires
+first-word-requires : tie.Need-first_word-first-requires
 first-word-requires c κs = search rules
 
-same-length-3 : tie.Need-same-length-3
+same-length-3 : tie.Need-shape_of-out-then-first-out
 same-length-3 c = search rules
 
-returns-3 : tie.Need-returns-3
+returns-3 : tie.Need-returns-then-first-out
 returns-3 c =
-    let p = c.before.before.before in
+    let p = c.before.before in
     let n = p.before.before.before in
-    let e = c.before.first_word.ensures in
+    let e = c.first_word-first.ensures in
     ap Word e ∙ other_word _ _ _ _ _ (ran n.before.before.before.before) (number-agrees n) (place-agrees p)
-    (rw e at c.if3.true)
+    (rw e at c.if-first-out.true)
 
-same-length-4 : tie.Need-same-length-4
+same-length-4 : tie.Need-shape_of-out
 same-length-4 c = search rules
 
-returns-4 : tie.Need-returns-4
+returns-4 : tie.Need-returns
 returns-4 c =
-    let p = c.before.before.before in
+    let p = c.before.before in
     let n = p.before.before.before in
-    let e = c.before.first_word.ensures in
+    let e = c.first_word-first.ensures in
     same-words _ _ _ _ _ (ran n.before.before.before.before) (number-agrees n) (place-agrees p)
-    (rw e at c.if3.false)
+    (rw e at c.if-first-out.false)
 
-pub judged-spec : {M : Type 1} → statement M
-judged-spec =
+pub judged_spec : {M : Type 1} → statement M
+judged_spec =
     tie.close
     (tie.spec
     number-requires

@@ -1,6 +1,7 @@
 -- `mask` meets its contract. The loop's invariant: the bytes are the first `i` of the row, and
 -- zeros, 13 in all. Assumes nothing.
-use Rattle.std.proofs.Common.{◌≡◌, ℕ, zero, suc, ◌+◌, ◌-◌, ◌<◌, ◌≤◌, List, [], ◌∷◌, ◌++◌, length, take, set, replicate, ℤ, sym, refl, ap, ◌∙◌, append_assoc, add-one, arith, take_at, rules}
+use Rattle.std.proofs.Common.{◌≡◌, ℕ, zero, suc, ◌+◌, ◌-◌, ◌<◌, ◌≤◌, List, [], ◌∷◌, ◌++◌, length, take, set, replicate}
+use Rattle.std.proofs.Common.{ℤ, sym, refl, ap, ◌∙◌, append_assoc, add-one, arith, take_at, rules}
 use lib.Seq.{set_at}
 use Rattle.stems.specs.Mask.{mask_of}
 use Rattle.test_tables.specs.Given.{count_in, bytes_in, mask_in}

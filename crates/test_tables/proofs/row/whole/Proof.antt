@@ -1,5 +1,6 @@
 -- `whole` meets its contract: where the cast stands the number is not below 0. Assumes nothing.
-use Rattle.std.proofs.Common.{◌≡◌, true, false, T, ℤ, pos, negsuc, nat_abs, refl, true≢false, arith, to_z-of_z, ltb-true}
+use Rattle.std.proofs.Common.{◌≡◌, true, false, T, ℤ, pos, negsuc, nat_abs, refl, true≢false, arith, to_z-of_z}
+use Rattle.std.proofs.Common.{ltb-true}
 use lib.Signed.{lt_z, non_neg, nat_abs-le}
 use Rattle.test_tables.specs.Given.{whole_of}
 use Rattle.test_tables.proofs.row.whole.Statement.{statement}

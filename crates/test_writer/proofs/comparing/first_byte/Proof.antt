@@ -7,54 +7,54 @@ use Rattle.test_writer.specs.Comparing.{same_byte}
 use Rattle.test_writer.proofs.comparing.first_byte.Statement.{statement}
 use Rattle.test_writer.proofs.comparing.first_byte.Tie as tie
 
-abbrev invariant-loop : tie.invariant-loop
+abbrev invariant-loop : tie.invariant-loop-i
 invariant-loop left stored i₀ i-end i =
     (first_from (same_byte left stored) i (i-end - i) ≡ first_different (same_byte left stored) i-end) × (i ≤ i-end)
 
-abbrev decreases-loop : tie.decreases-loop
+abbrev decreases-loop : tie.decreases-loop-i
 decreases-loop left stored i₀ i-end i = i-end - i
 
-loop-holds : tie.Need-loop-init invariant-loop decreases-loop
+loop-holds : tie.Need-loop-i-init invariant-loop decreases-loop
 loop-holds c = (ap (first_from _ 0) (omega arith), search rules)
 
-shared-slice-read-if1 : tie.Need-shared-slice-read-if1 invariant-loop decreases-loop
+shared-slice-read-if1 : tie.Need-bounds-left-i invariant-loop decreases-loop
 shared-slice-read-if1 c = search rules
 
-shared-slice-read-if1-2 : tie.Need-shared-slice-read-if1-2 invariant-loop decreases-loop
+shared-slice-read-if1-2 : tie.Need-bounds-stored-i invariant-loop decreases-loop
 shared-slice-read-if1-2 c = search rules
 
-returns : tie.Need-returns invariant-loop decreases-loop
+returns : tie.Need-returns-then-left-i invariant-loop decreases-loop
 returns c =
     let l = c.before.before.before.before in
-    let a = l.before.args in
-    sym (stopped (same_byte a.left.now a.stored.now) l.loop.i (length a.left.now) (omega arith)
-    (ne_eqb _ _ c.if1.true)) ∙ l.loop.invariant.0
+    let a = l.args in
+    sym (stopped (same_byte a.left.now a.stored.now) l.loop-i.i (length a.left.now) (omega arith)
+    (ne_eqb _ _ c.if-left-i.true)) ∙ l.loop-i.invariant.0
 
-add-i : tie.Need-overflow-add-i invariant-loop decreases-loop
+add-i : tie.Need-overflow_step-i invariant-loop decreases-loop
 add-i c = search rules
 
-loop-less : tie.Need-loop-smaller invariant-loop decreases-loop
+loop-less : tie.Need-loop-i-smaller invariant-loop decreases-loop
 loop-less c = search rules
 
-loop-again : tie.Need-loop-preserved invariant-loop decreases-loop
+loop-again : tie.Need-loop-i-preserved invariant-loop decreases-loop
 loop-again c =
     let l = c.before.before.before.before in
-    let a = l.before.args in (
-      sym (passed (same_byte a.left.now a.stored.now) l.loop.i (length a.left.now) (omega arith)
-          (eq-eqb _ _ c.if1.false)) ∙ l.loop.invariant.0,
+    let a = l.args in (
+      sym (passed (same_byte a.left.now a.stored.now) l.loop-i.i (length a.left.now) (omega arith)
+          (eq-eqb _ _ c.if-left-i.false)) ∙ l.loop-i.invariant.0,
       search rules,
     )
 
-returns-2 : tie.Need-returns-2 invariant-loop decreases-loop
+returns-2 : tie.Need-returns invariant-loop decreases-loop
 returns-2 c =
-    let a = c.before.before.args in
-    let l = c.before.loop in
+    let a = c.args in
+    let l = c.loop-i in
     let n : l.i ≡ length a.left.now = omega arith in
     sym n ∙ sym (ended (same_byte a.left.now a.stored.now) l.i (length a.left.now) (omega arith)) ∙
     l.invariant.0
 
-pub first-byte-spec : {M : Type 1} → statement M
-first-byte-spec =
+pub first_byte_spec : {M : Type 1} → statement M
+first_byte_spec =
     tie.close
     (tie.spec
     invariant-loop

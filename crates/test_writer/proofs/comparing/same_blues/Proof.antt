@@ -5,17 +5,17 @@ use Rattle.test_writer.specs.Comparing.{same_blues}
 use Rattle.test_writer.proofs.comparing.same_blues.Statement.{statement}
 use Rattle.test_writer.proofs.comparing.same_blues.Tie as tie
 
-returns : tie.Need-returns
+returns : tie.Need-returns-then-a-b
 unfolding same_blues
-returns c = rw (ne_eqb _ _ c.if1.true)
+returns c = rw (ne_eqb _ _ c.if-a-b.true)
 
-first-pair-requires : tie.Need-first-pair-requires
+first-pair-requires : tie.Need-first_pair-requires
 first-pair-requires c κs = search rules
 
-returns-2 : tie.Need-returns-2
+returns-2 : tie.Need-returns
 unfolding same_blues
 returns-2 c =
-    rw (eq-eqb _ _ c.before.if1.false) (ap (λ (n : ℕ). eqb n max_blues) c.first-pair.ensures)
+    rw (eq-eqb _ _ c.if-a-b.false) (ap (λ (n : ℕ). eqb n max_blues) c.first_pair.ensures)
 
-pub same-blues-spec : {M : Type 1} → statement M
-same-blues-spec = tie.close (tie.spec returns first-pair-requires returns-2)
+pub same_blues_spec : {M : Type 1} → statement M
+same_blues_spec = tie.close (tie.spec returns first-pair-requires returns-2)

@@ -14,39 +14,39 @@ abbrev rows : tie.Start → List (Row Verdict)
 rows s =
     write_rows s.args.head.now s.args.stored.now (writing s.args.answer s.args.script.now)
 
-abbrev begin : tie.Else1 → tie.Start
+abbrev begin : tie.Else-code-natural → tie.Start
 begin c = c.before.before.before.before.before.before
 
-at1 : (c : tie.Else1) → Past (rows (begin c)) 1
+at1 : (c : tie.Else-code-natural) → Past (rows (begin c)) 1
 unfolding write_rows
-at1 c = pass 0 start (same _ _ (sym c.before.before.code.ensures ∙ c.if1.false ∙ c.before.natural.ensures.0))
+at1 c = pass 0 start (same _ _ (sym c.code.ensures ∙ c.if-code-natural.false ∙ c.natural.ensures.0))
 
-at2 : (c : tie.Else2) → Past (rows (begin c.before.before.before)) 2
+at2 : (c : tie.Else-place-natural) → Past (rows (begin c.before.before.before)) 2
 unfolding write_rows
 at2 c =
     pass 1 (at1 c.before.before.before)
-    (same _ _ (sym c.before.before.place.ensures ∙ c.if2.false ∙ c.before.natural2.ensures.0))
+    (same _ _ (sym c.place.ensures ∙ c.if-place-natural.false ∙ c.natural-2.ensures.0))
 
-at3 : (c : tie.Else3) → Past (rows (begin c.before.before.before.before.before.before)) 3
+at3 : (c : tie.Else-written-natural) → Past (rows (begin c.before.before.before.before.before.before)) 3
 unfolding write_rows
 at3 c =
     pass 2 (at2 c.before.before.before)
-    (same _ _ (sym c.before.before.written.ensures ∙ c.if3.false ∙ c.before.natural3.ensures.0))
+    (same _ _ (sym c.written.ensures ∙ c.if-written-natural.false ∙ c.natural-3.ensures.0))
 
 code-requires : tie.Need-code-requires
 code-requires c κs = search rules
 
-cast-if1 : tie.Need-overflow-cast-if1
+cast-if1 : tie.Need-overflow_cast-code
 cast-if1 c = search rules
 
 natural-requires : tie.Need-natural-requires
 natural-requires c κs = search rules
 
-returns : tie.Need-returns
+returns : tie.Need-returns-then-code-natural
 unfolding write_rows
 returns c =
     stop 0 start
-    (other _ _ (λ e. c.if1.true (c.before.before.code.ensures ∙ e ∙ sym c.before.natural.ensures.0)))
+    (other _ _ (λ e. c.if-code-natural.true (c.code.ensures ∙ e ∙ sym c.natural.ensures.0)))
 
 place-requires : tie.Need-place-requires
 place-requires c κs = search rules
@@ -54,11 +54,11 @@ place-requires c κs = search rules
 natural-requires-2 : tie.Need-natural-requires-2
 natural-requires-2 c κs = search rules
 
-returns-2 : tie.Need-returns-2
+returns-2 : tie.Need-returns-then-place-natural
 unfolding write_rows
 returns-2 c =
     stop 1 (at1 c.before.before.before)
-    (other _ _ (λ e. c.if2.true (c.before.before.place.ensures ∙ e ∙ sym c.before.natural2.ensures.0)))
+    (other _ _ (λ e. c.if-place-natural.true (c.place.ensures ∙ e ∙ sym c.natural-2.ensures.0)))
 
 written-requires : tie.Need-written-requires
 written-requires c κs = search rules
@@ -66,29 +66,29 @@ written-requires c κs = search rules
 natural-requires-3 : tie.Need-natural-requires-3
 natural-requires-3 c κs = search rules
 
-returns-3 : tie.Need-returns-3
+returns-3 : tie.Need-returns-then-written-natural
 unfolding write_rows
 returns-3 c =
     stop 2 (at2 c.before.before.before)
-    (other _ _ (λ e. c.if3.true (c.before.before.written.ensures ∙ e ∙ sym c.before.natural3.ensures.0)))
+    (other _ _ (λ e. c.if-written-natural.true (c.written.ensures ∙ e ∙ sym c.natural-3.ensures.0)))
 
-first-byte-requires : tie.Need-first-byte-requires
+first-byte-requires : tie.Need-first_byte-first-requires
 first-byte-requires c κs = search rules
 
-returns-4 : tie.Need-returns-4
+returns-4 : tie.Need-returns-then-first-script
 unfolding write_rows
 returns-4 c =
-    let e = c.before.first_byte.ensures in
-    ap Byte e ∙ stop 3 (at3 c.before.before) (lt-ltb _ _ (rw e at c.if4.true))
+    let e = c.first_byte-first.ensures in
+    ap Byte e ∙ stop 3 (at3 c.before.before) (lt-ltb _ _ (rw e at c.if-first-script.true))
 
-returns-5 : tie.Need-returns-5
+returns-5 : tie.Need-returns
 unfolding write_rows
 returns-5 c =
-    let e = c.before.first_byte.ensures in
-    through (pass 3 (at3 c.before.before) (le-ltb _ _ (rw e at c.if4.false))) refl
+    let e = c.first_byte-first.ensures in
+    through (pass 3 (at3 c.before.before) (le-ltb _ _ (rw e at c.if-first-script.false))) refl
 
-pub compared-writing-spec : {M : Type 1} → statement M
-compared-writing-spec =
+pub compared_writing_spec : {M : Type 1} → statement M
+compared_writing_spec =
     tie.close
     (tie.spec
     code-requires

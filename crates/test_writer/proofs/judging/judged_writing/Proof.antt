@@ -5,41 +5,41 @@ use Rattle.test_writer.proofs.Results.{wrote-is}
 use Rattle.test_writer.proofs.judging.judged_writing.Statement.{statement}
 use Rattle.test_writer.proofs.judging.judged_writing.Tie as tie
 
-mul-lend-bytes : tie.Need-overflow-mul-lend-bytes
+mul-lend-bytes : tie.Need-overflow_mul-lend_bytes
 mul-lend-bytes c = search rules
 
-shared-slice-read-lend-bytes : tie.Need-shared-slice-read-lend-bytes
+shared-slice-read-lend-bytes : tie.Need-bounds-head
 shared-slice-read-lend-bytes c = search rules
 
-lend-bytes-requires : tie.Need-lend-bytes-requires
+lend-bytes-requires : tie.Need-lend_bytes-requires
 lend-bytes-requires c κs = search rules
 
-number-requires : tie.Need-number-requires
+number-requires : tie.Need-number-scale-requires
 number-requires c κs = search rules
 
-params-from-requires : tie.Need-params-from-requires
+params-from-requires : tie.Need-params_from-requires
 params-from-requires c κs = search rules
 
-write-script-requires : tie.Need-write-script-requires
+write-script-requires : tie.Need-write_script-answer-requires
 write-script-requires c κs = search rules
 
-compared-writing-requires : tie.Need-compared-writing-requires
+compared-writing-requires : tie.Need-compared_writing-requires
 compared-writing-requires c κs = search rules
 
-same_length : tie.Need-same-length
+same_length : tie.Need-shape_of-script
 same_length c = search rules
 
 returns : tie.Need-returns
 returns c =
-    let w = c.before.before.before.before in
-    let p = w.before.before in
-    let n = p.before in
-    let l = n.before.before.before in
-    let o = rw (n.number.ensures, p.params-from.ensures, l.lend-bytes.ensures) at w.write-script.ensures in
-    rw (wrote-is o) at c.compared-writing.ensures
+    let w = c in
+    let p = w in
+    let n = p in
+    let l = n in
+    let o = rw (n.number-scale.ensures, p.params_from.ensures, l.lend_bytes.ensures) at w.write_script-answer.ensures in
+    rw (wrote-is o) at c.compared_writing.ensures
 
-pub judged-writing-spec : {M : Type 1} → statement M
-judged-writing-spec =
+pub judged_writing_spec : {M : Type 1} → statement M
+judged_writing_spec =
     tie.close
     (tie.spec
     mul-lend-bytes

@@ -50,8 +50,9 @@ returns : tie.Need-returns
 unfolding signed number_words
 returns c =
     let f = c in
-    let s = f.before.before.before.before.before.before.before.before.before.before.before.before.before.before.before.before.before.before.before.before.before in
-    let a = s.args in
+    let s = f.before.before.before.before.before.before.before.before.before.before.before.before in
+    let t = s.before.before.before.before.before.before.before.before.before in
+    let a = t.args in
     let p = a.params in
     let e : f.store_words.new.bytes ≡ laid a.script.now 8
     (map bits_of (to_z w32 (of_z w32 p.blue_scale.bits) ∷ to_z w32 (of_z w32 p.blue_shift.bits) ∷
@@ -59,14 +60,14 @@ returns c =
     signed p.other_blues.count ∷ signed p.family_blues.count ∷ signed p.family_other_blues.count ∷
     [])) = f.store_words.ensures in
     rw (
-      to_z-of_z (fits-scale s),
-      to_z-of_z (fits-shift s),
-      to_z-of_z (fits-fuzz s),
-      to_z-of_z (fits-group s),
-      signed-bits p.blues.count (omega (arith, s.requires.1.blues)),
-      signed-bits p.other_blues.count (omega (arith, s.requires.1.others)),
-      signed-bits p.family_blues.count (omega (arith, s.requires.1.family)),
-      signed-bits p.family_other_blues.count (omega (arith, s.requires.1.family_others)),
+      to_z-of_z (fits-scale t),
+      to_z-of_z (fits-shift t),
+      to_z-of_z (fits-fuzz t),
+      to_z-of_z (fits-group t),
+      signed-bits p.blues.count (omega (arith, t.requires.1.blues)),
+      signed-bits p.other_blues.count (omega (arith, t.requires.1.others)),
+      signed-bits p.family_blues.count (omega (arith, t.requires.1.family)),
+      signed-bits p.family_other_blues.count (omega (arith, t.requires.1.family_others)),
     ) at e
 
 pub store_numbers_spec : {M : Type 1} → statement M

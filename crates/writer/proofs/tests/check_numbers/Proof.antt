@@ -32,7 +32,8 @@ few c = sym c.too_many.ensures ∙ c.if-too_many.false
 few-others : (c : tie.Else-too_many-2) → ltb max_blues (given c.before.before.before).other_blues.count ≡ false
 few-others c = sym c.too_many-2.ensures ∙ c.if-too_many-2.false
 
-few-family : (c : tie.Else-too_many-3) → ltb max_blues (given c.before.before.before.before.before.before).family_blues.count ≡ false
+few-family : (c : tie.Else-too_many-3) → ltb max_blues (given
+    c.before.before.before.before.before.before).family_blues.count ≡ false
 few-family c = sym c.too_many-3.ensures ∙ c.if-too_many-3.false
 
 returns : tie.Need-returns-then-scale-lt1

@@ -65,5 +65,6 @@ returns-2 c =
 pub holder_spec : {M : Type 1} → statement M
 holder_spec =
     tie.close
-    (tie.spec invariant-loop decreases-loop (λ c. refl) (λ c κs. omega (arith, c.requires)) (λ c κs. search rules) returns
+    (tie.spec invariant-loop decreases-loop (λ c. refl) (λ c κs. omega (arith, c.requires)) (λ c κs. search rules)
+    returns
     (λ c. search rules) (λ c. search rules) loop-again returns-2)

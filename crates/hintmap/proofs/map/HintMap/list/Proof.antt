@@ -14,7 +14,8 @@ use Rattle.hintmap.proofs.map.HintMap.list.Tie as tie
 
 abbrev invariant-loop : tie.invariant-loop-i
 invariant-loop lines₀ tags₀ self i₀ lines tags i =
-    (i ≤ 96) × (Whole lines tags × ((j : ℕ) → j < i → get_or (edges_in lines tags) j no_hint ≡ get_or self.edges j no_hint))
+    (i ≤ 96) × (Whole lines tags × ((j : ℕ) → j < i → get_or (edges_in lines tags) j no_hint ≡ get_or self.edges j
+    no_hint))
 
 abbrev decreases-loop : tie.decreases-loop-i
 decreases-loop lines₀ tags₀ self i₀ lines tags i = 96 - i
@@ -52,5 +53,6 @@ returns c =
 pub list_spec : {M : Type 1} → statement M
 list_spec =
     tie.close
-    (tie.spec invariant-loop decreases-loop (λ c. (omega arith, (c.requires, λ j q. absurd (omega arith)))) (λ c. omega arith)
+    (tie.spec invariant-loop decreases-loop (λ c. (omega arith, (c.requires, λ j q. absurd (omega arith))))
+    (λ c. omega arith)
     (λ c. omega arith) (λ c κs. omega arith) (λ c. omega arith) (λ c. omega arith) loop-again returns)

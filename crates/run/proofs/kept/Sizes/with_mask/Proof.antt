@@ -135,5 +135,6 @@ returns-2 c =
 pub with_mask_spec : {M : Type 1} → statement M
 with_mask_spec =
     tie.close
-    (tie.spec invariant-loop decreases-loop (λ c. (omega arith, (c.requires, (refl, refl)))) (λ c. search rules) (λ c. search rules)
+    (tie.spec invariant-loop decreases-loop (λ c. (omega arith, (c.requires, (refl, refl)))) (λ c. search rules)
+    (λ c. search rules)
     (λ c. search rules) (λ c. search rules) (λ c. search rules) loop-again returns returns-2)

@@ -27,7 +27,8 @@ invariant-loop self other i₀ i = (i ≤ 12) × (same_mask self other ≡ same_
 abbrev decreases-loop : tie.decreases-loop-i
 decreases-loop self other i₀ i = 12 - i
 
-twelve : (s : tie.Start invariant-loop decreases-loop) → (length s.args.self.bytes ≡ 12) × (length s.args.other.bytes ≡ 12)
+twelve : (s : tie.Start invariant-loop decreases-loop) → (length s.args.self.bytes ≡ 12) ×
+    (length s.args.other.bytes ≡ 12)
 twelve s = (search rules, search rules)
 
 next : (c : tie.In-loop-i invariant-loop decreases-loop) →

@@ -46,7 +46,8 @@ returns c =
     let at = c in
     let l = at in
     let test = sym c.same.ensures ∙ c.if-same.true in
-    sym (search-found l.args.side _ _ (room l.before.before.before.before.before.before) _ _ _ _ c.loop-i-test.true test) ∙
+    sym (search-found l.args.side _ _ (room l.before.before.before.before.before.before) _ _ _ _ c.loop-i-test.true
+    test) ∙
     at.loop-i.invariant
 
 edge-requires : tie.Need-edge-requires invariant-loop decreases-loop

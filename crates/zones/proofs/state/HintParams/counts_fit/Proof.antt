@@ -16,13 +16,23 @@ returns-3 : tie.Need-returns-then-family-gt-MAX_BLUES
 unfolding counts_fit
 returns-3 c =
     let e = c.before.before in
-    rw (le-leb _ 7 e.if-blues-gt-MAX_BLUES.false, le-leb _ 7 e.if-others-gt-MAX_BLUES.false, lt-leb _ 7 c.if-family-gt-MAX_BLUES.true)
+    rw (
+      le-leb _ 7 e.if-blues-gt-MAX_BLUES.false,
+      le-leb _ 7 e.if-others-gt-MAX_BLUES.false,
+      lt-leb _ 7
+          c.if-family-gt-MAX_BLUES.true,
+    )
 
 returns-4 : tie.Need-returns
 unfolding counts_fit
 returns-4 c =
     let e = c.before.before.before in
-    rw (le-leb _ 7 e.if-blues-gt-MAX_BLUES.false, le-leb _ 7 e.if-others-gt-MAX_BLUES.false, le-leb _ 7 c.if-family-gt-MAX_BLUES.false)
+    rw (
+      le-leb _ 7 e.if-blues-gt-MAX_BLUES.false,
+      le-leb _ 7 e.if-others-gt-MAX_BLUES.false,
+      le-leb _ 7
+          c.if-family-gt-MAX_BLUES.false,
+    )
 
 pub counts_fit_spec : {M : Type 1} → statement M
 counts_fit_spec = tie.close (tie.spec returns returns-2 returns-3 returns-4)

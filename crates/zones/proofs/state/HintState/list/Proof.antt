@@ -46,5 +46,6 @@ returns c =
 pub list_spec : {M : Type 1} → statement M
 list_spec =
     tie.close
-    (tie.spec invariant-loop decreases-loop (λ c. (omega arith, (c.requires, λ j q. absurd (omega arith)))) (λ c. omega arith)
+    (tie.spec invariant-loop decreases-loop (λ c. (omega arith, (c.requires, λ j q. absurd (omega arith))))
+    (λ c. omega arith)
     (λ c. omega arith) (λ c κs. omega arith) (λ c. omega arith) (λ c. omega arith) loop-again returns)
