@@ -33,11 +33,11 @@ unfolding fraction_by
 returns t c = rw c.if-left-eq0.true (λ h. put-none _ _)
 
 returns-2 : (t : ℕ) → lts.Need-returns-then-n-eq0 (calls t) (at t) fraction.Post
-returns-2 t c = rw (split _ _ c.if-left-eq0.false, eq-eqb _ 0 c.if-n-eq0.true) (λ h. put-none _ _)
+returns-2 t c = rw (split _ _ c.if-left-eq0.false, eq-eqb c.args.n 0 c.if-n-eq0.true) (λ h. put-none _ _)
 
 returns-3 : (t : ℕ) → lts.Need-returns (calls t) (at t) fraction.Post
 returns-3 t c =
-    rw (split _ _ c.if-left-eq0.false, ne_eqb _ 0 c.if-n-eq0.false)
+    rw (split _ _ c.if-left-eq0.false, ne_eqb c.args.n 0 c.if-n-eq0.false)
     (in-room-both c.put_byte-next.ensures c.put_fraction.ensures)
 
 pub +put_fraction_spec : {M : Type 1} → statement M
