@@ -4,6 +4,8 @@ ghost use Rattle.std.specs.Prelude.{◌+◌, ◌*◌, ◌/◌, ◌≤◌, length
 use crate::judging::judged;
 use crate::records::{LENT_WORDS, judged_records};
 use crate::row;
+use std::io;
+use std::io::Read;
 use test_tables::{Verdict, read_bytes};
 use words::{natural, read_words};
 
@@ -29,29 +31,29 @@ pub(crate) enum Seen {
     Run(Verdict),
 }
 
-pub(crate) fn case(cases: Cases, file: i32) -> Seen {
+pub(crate) fn case<R: Read>(cases: Cases, file: &mut R) -> io::Result<Seen> {
     let mut head = [0u8; row::HEAD];
-    if !read_bytes(file, &mut head) {
-        return Seen::Cut;
+    if !read_bytes(file, &mut head)? {
+        return Ok(Seen::Cut);
     }
     let mut case = [0u8; HELD_CASE];
     read_sized(cases, file, &head, &mut case)
 }
 
 // Reads as many bytes as the case has.
-fn read_sized(cases: Cases, file: i32, head: &[u8], case: &mut [u8]) -> Seen
+fn read_sized<R: Read>(cases: Cases, file: &mut R, head: &[u8], case: &mut [u8]) -> io::Result<Seen>
     requires { 40 ≤ length head.now }
 {
     let size = natural(head, row::SCRIPT);
     let words = natural(head, row::LIST);
     let end = 4 * ((size + 3) / 4 + 2 * words);
     if HELD_LIST < words || case.len() < end {
-        return Seen::Cut;
+        return Ok(Seen::Cut);
     }
-    if !read_bytes(file, &mut case[..end]) {
-        return Seen::Cut;
+    if !read_bytes(file, &mut case[..end])? {
+        return Ok(Seen::Cut);
     }
-    run_case(cases, head, case, size, words)
+    Ok(run_case(cases, head, case, size, words))
 }
 
 // Runs the case, whose script has so many bytes and whose list has so many words.

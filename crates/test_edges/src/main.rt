@@ -9,14 +9,12 @@ mod records;
 mod report;
 mod row;
 
+use std::fs::File;
+use std::io;
+
 // `python3 -m model` makes this file, from model/tables/edges.py, which says what of it is worked by
 // hand; the rest comes from model/edges.py.
-fn main() {
-    let file = os::open_read(b"edges.bin");
-    if file < 0 {
-        os::fail(b"edges.bin");
-        return;
-    }
-    report::tables(file);
-    libc::close(file);
+fn main(rt: HostRuntime) -> io::Result<()> {
+    let mut file = File::open(&rt, "edges.bin")?;
+    report::tables(&rt, &mut file)
 }

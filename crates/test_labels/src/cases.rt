@@ -3,6 +3,8 @@ ghost use Rattle.std.specs.Prelude.{◌+◌, ◌*◌, ◌/◌, ◌≤◌, length
 
 use crate::judging::judged;
 use crate::row;
+use std::io;
+use std::io::Read;
 use test_tables::{Verdict, read_bytes};
 use words::{natural, read_words};
 
@@ -23,17 +25,17 @@ pub(crate) enum Seen {
     Run(Verdict),
 }
 
-pub(crate) fn case(file: i32) -> Seen {
+pub(crate) fn case<R: Read>(file: &mut R) -> io::Result<Seen> {
     let mut head = [0u8; row::HEAD];
-    if !read_bytes(file, &mut head) {
-        return Seen::Cut;
+    if !read_bytes(file, &mut head)? {
+        return Ok(Seen::Cut);
     }
     let mut case = [0u8; HELD_CASE];
     read_sized(file, &head, &mut case)
 }
 
 // Reads as many bytes as the case has.
-fn read_sized(file: i32, head: &[u8], case: &mut [u8]) -> Seen
+fn read_sized<R: Read>(file: &mut R, head: &[u8], case: &mut [u8]) -> io::Result<Seen>
     requires { 40 ≤ length head.now }
 {
     let commands = natural(head, row::PARAMS);
@@ -43,12 +45,12 @@ fn read_sized(file: i32, head: &[u8], case: &mut [u8]) -> Seen
     let bytes = natural(head, row::MASKS);
     let end = 4 * (given + 2 * room + (bytes + 3) / 4);
     if HELD_WORDS < given || HELD_OUTPUT < room || case.len() < end {
-        return Seen::Cut;
+        return Ok(Seen::Cut);
     }
-    if !read_bytes(file, &mut case[..end]) {
-        return Seen::Cut;
+    if !read_bytes(file, &mut case[..end])? {
+        return Ok(Seen::Cut);
     }
-    Seen::Run(run_case(head, case, commands, lengths, given, room, bytes))
+    Ok(Seen::Run(run_case(head, case, commands, lengths, given, room, bytes)))
 }
 
 // Lends as many words as the case says.

@@ -7,14 +7,12 @@ mod judging;
 mod report;
 mod row;
 
+use std::fs::File;
+use std::io;
+
 // `python3 -m model` makes this file, from model/tables/labels.py, which says what of it is worked by
 // hand; the rest comes from model/labels.py.
-fn main() {
-    let file = os::open_read(b"labels.bin");
-    if file < 0 {
-        os::fail(b"labels.bin");
-        return;
-    }
-    report::tables(file);
-    libc::close(file);
+fn main(rt: HostRuntime) -> io::Result<()> {
+    let mut file = File::open(&rt, "labels.bin")?;
+    report::tables(&rt, &mut file)
 }

@@ -114,13 +114,13 @@ module _ (s : List ℕ) where
       by-pairs : ScaleFine s → CountsFine s → (b : Bool) → eqb (raw_at s 3) (8 + 2 * pairs_in (raw_at s)) ≡ b →
           (first_of (param_rows (raw_at s)) ≡ Ok) ⊎ ((a : Answer) × When s out a)
       by-pairs c f true e = inl (fine-answer c f (eqb-true (raw_at s 3) (8 + 2 * pairs_in (raw_at s)) e))
-      by-pairs c f false e = inr (BadScript 3, pairs h c f (eqb-false (raw_at s 3) (8 + 2 * pairs_in (raw_at s)) e)
-      refl)
+      by-pairs c f false e =
+          inr (BadScript 3, pairs h c f (eqb-false (raw_at s 3) (8 + 2 * pairs_in (raw_at s)) e) refl)
 
       by-counts : ScaleFine s → FirstFine 4 ⊎ Over 4 →
           (first_of (param_rows (raw_at s)) ≡ Ok) ⊎ ((a : Answer) × When s out a)
-      by-counts c (inl f) = by-pairs c (λ j l m. f j l (omega arith)) (eqb (raw_at s 3) (8 + 2 * pairs_in (raw_at s)))
-      refl
+      by-counts c (inl f) =
+          by-pairs c (λ j l m. f j l (omega arith)) (eqb (raw_at s 3) (8 + 2 * pairs_in (raw_at s))) refl
       by-counts c (inr o) =
           inr (
             BadBlues o.place,

@@ -6,17 +6,17 @@ use borrow.Author.Rules.{rules}
 use Rattle.test_edges.proofs.cases.run_words.Statement.{statement}
 use Rattle.test_edges.proofs.cases.run_words.Tie as tie
 
-array-borrow-prefix-list : tie.Need-array-borrow-prefix-list
+array-borrow-prefix-list : tie.Need-slice_bounds-list-end
 array-borrow-prefix-list c = search rules
 
-slice-aggregate-run-parts : tie.Need-slice-aggregate-run-parts
+slice-aggregate-run-parts : tie.Need-slice_bounds-run_parts-end
 slice-aggregate-run-parts c = sym (length-take-le _ _ (search rules))
 
-run-parts-requires : tie.Need-run-parts-requires
+run-parts-requires : tie.Need-run_parts-requires
 run-parts-requires c κs = (search rules, omega (arith, slice-aggregate-run-parts c))
 
 returns : tie.Need-returns
 returns c = search rules
 
-pub run-words-spec : {M : Type 1} → statement M
-run-words-spec = tie.close (tie.spec array-borrow-prefix-list slice-aggregate-run-parts run-parts-requires returns)
+pub run_words_spec : {M : Type 1} → statement M
+run_words_spec = tie.close (tie.spec array-borrow-prefix-list slice-aggregate-run-parts run-parts-requires returns)

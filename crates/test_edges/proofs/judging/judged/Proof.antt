@@ -8,13 +8,13 @@ use Rattle.test_edges.proofs.judging.judged.Tie as tie
 returns : tie.Need-returns
 unfolding verdict_of
 returns c =
-    let a = c.before.before in
-    let s = a.before.before in
-    let o = rw s.before.before.commands.ensures at s.see-edges.ensures in
+    let a = c in
+    let s = a in
+    let o = rw s.commands.ensures at s.see_edges-answer.ensures in
     rw (a.same_answer.ensures, o.answer, o.memory) at c.judge.ensures
 
-pub judged-spec : {M : Type 1} → statement M
-judged-spec =
+pub judged_spec : {M : Type 1} → statement M
+judged_spec =
     tie.close
     (tie.spec (λ c κs. search rules) (λ c κs. search rules) (λ c κs. search rules) (λ c κs. search rules)
     (λ c. search rules) returns)

@@ -11,34 +11,34 @@ use Rattle.test_edges.specs.Judging.{same_summary, same_answer}
 use Rattle.test_edges.proofs.judging.same_answer.Statement.{statement}
 use Rattle.test_edges.proofs.judging.same_answer.Tie as tie
 
-abbrev begin : tie.Else1 → tie.Start
+abbrev begin : tie.Else-code-natural → tie.Start
 begin c = c.before.before.before.before
 
-abbrev first : tie.Else2 → tie.Else1
+abbrev first : tie.Else-place-natural → tie.Else-code-natural
 first c = c.before.before.before
 
 -- the number agrees after the first test, the place after the second
-number : (c : tie.Else1) → eqb (seen_number (begin c).args.answer) (raw_at (begin c).args.head.now 4) ≡ true
-number c = eq-eqb _ _ (sym c.before.before.code.ensures ∙ c.if1.false ∙ c.before.natural.ensures.0)
+number : (c : tie.Else-code-natural) → eqb (seen_number (begin c).args.answer) (raw_at (begin c).args.head.now 4) ≡ true
+number c = eq-eqb _ _ (sym c.code.ensures ∙ c.if-code-natural.false ∙ c.natural.ensures.0)
 
-place : (c : tie.Else2) →
+place : (c : tie.Else-place-natural) →
     eqb (seen_place (begin (first c)).args.answer) (raw_at (begin (first c)).args.head.now 5) ≡ true
-place c = eq-eqb _ _ (sym c.before.before.place.ensures ∙ c.if2.false ∙ c.before.natural2.ensures.0)
+place c = eq-eqb _ _ (sym c.place.ensures ∙ c.if-place-natural.false ∙ c.natural-2.ensures.0)
 
 code-requires : tie.Need-code-requires
 code-requires c κs = search rules
 
-cast-if1 : tie.Need-overflow-cast-if1
+cast-if1 : tie.Need-overflow_cast-code
 cast-if1 c = search rules
 
 natural-requires : tie.Need-natural-requires
 natural-requires c κs = search rules
 
-returns : tie.Need-returns
+returns : tie.Need-returns-then-code-natural
 unfolding same_answer
 returns c =
     let n = c.before in
-    rw (ne_eqb _ _ (λ e. c.if1.true (n.before.code.ensures ∙ e ∙ sym n.natural.ensures.0)))
+    rw (ne_eqb _ _ (λ e. c.if-code-natural.true (n.code.ensures ∙ e ∙ sym n.natural.ensures.0)))
 
 place-requires : tie.Need-place-requires
 place-requires c κs = search rules
@@ -46,27 +46,27 @@ place-requires c κs = search rules
 natural-requires-2 : tie.Need-natural-requires-2
 natural-requires-2 c κs = search rules
 
-returns-2 : tie.Need-returns-2
+returns-2 : tie.Need-returns-then-place-natural
 unfolding same_answer
 returns-2 c =
     let n = c.before in
     let p = n.before in
-    rw (number p.before, ne_eqb _ _ (λ e. c.if2.true (p.place.ensures ∙ e ∙ sym n.natural2.ensures.0)))
+    rw (number p.before, ne_eqb _ _ (λ e. c.if-place-natural.true (p.place.ensures ∙ e ∙ sym n.natural-2.ensures.0)))
 
 summary-requires : tie.Need-summary-requires
 summary-requires c κs = search rules
 
-same-summary-requires : tie.Need-same-summary-requires
+same-summary-requires : tie.Need-same_summary-requires
 same-summary-requires c κs = search rules
 
-returns-3 : tie.Need-returns-3
+returns-3 : tie.Need-returns
 unfolding same_answer
 returns-3 c =
     let p = c.before.before in
-    rw (number (first p), place p) (c.same-summary.ensures ∙ ap (same_summary _) c.before.summary.ensures)
+    rw (number (first p), place p) (c.same_summary.ensures ∙ ap (same_summary _) c.summary.ensures)
 
-pub same-answer-spec : {M : Type 1} → statement M
-same-answer-spec =
+pub same_answer_spec : {M : Type 1} → statement M
+same_answer_spec =
     tie.close
     (tie.spec
     code-requires

@@ -8,14 +8,14 @@ use Rattle.test_labels.proofs.judging.judged.Tie as tie
 returns : tie.Need-returns
 unfolding verdict_of
 returns c =
-    let a = c.before.before in
-    let l = a.before.before in
-    let p = l.before.before in
-    let o = rw (p.before.number.ensures, p.params-from.ensures) at l.run-labels.ensures in
+    let a = c in
+    let l = a in
+    let p = l in
+    let o = rw (p.number-scale.ensures, p.params_from.ensures) at l.run_labels-answer.ensures in
     rw (a.same_answer.ensures, o.answer, o.memory) at c.judge.ensures
 
-pub judged-spec : {M : Type 1} → statement M
-judged-spec =
+pub judged_spec : {M : Type 1} → statement M
+judged_spec =
     tie.close
     (tie.spec (λ c κs. search rules) (λ c κs. search rules) (λ c κs. search rules) (λ c κs. search rules)
     (λ c κs. search rules) (λ c. search rules) returns)
