@@ -1,9 +1,9 @@
 -- `check_numbers` makes the tests of `given_rows` in their order: one that holds gives the answer, and
 -- one that does not is passed. Assumes nothing.
-use mathlib.Core.Path.{◌≡◌, sym, ◌∙◌}
+use mathlib.Core.Path.{◌≡◌, sym, subst, ◌∙◌}
 use mathlib.Core.Bool.{true, false}
 use lib.Dec.{ltb}
-use lib.IntN.{pos}
+use lib.IntN.{ℤ, pos}
 use mir.Syntax.{w32}
 use mir.Val.{SFits}
 use mir.Facts.{to_z-of_z}
@@ -21,7 +21,9 @@ fits : (c : tie.After-struct_told-1) → SFits w32 c.args.scale.bits
 fits c = search rules
 
 scaled : (c : tie.Else-scale-lt1) → less_f c.args.scale (from_bits (pos 1)) ≡ false
-scaled c = rw (to_z-of_z (fits c.before)) at c.if-scale-lt1.false
+scaled c =
+    subst (λ (z : ℤ). less_f (from_bits z) (from_bits (pos 1)) ≡ false) (to_z-of_z (fits c.before))
+    c.if-scale-lt1.false
 
 abbrev given : (c : tie.Else-too_many) → HintParams
 given c = c.args.params
@@ -39,8 +41,9 @@ few-family c = sym c.too_many-3.ensures ∙ c.if-too_many-3.false
 returns : tie.Need-returns-then-scale-lt1
 unfolding given_rows first_or
 returns c =
-    let e : less_f c.args.scale (from_bits (pos 1)) ≡
-    true = rw (to_z-of_z (fits c.before)) at c.if-scale-lt1.true in
+    let e : less_f c.args.scale (from_bits (pos 1)) ≡ true =
+    subst (λ (z : ℤ). less_f (from_bits z) (from_bits (pos 1)) ≡ true) (to_z-of_z (fits c.before))
+    c.if-scale-lt1.true in
     rw e
 
 too-many-requires : tie.Need-too_many-requires

@@ -46,10 +46,14 @@ mul-size : tie.Need-overflow_mul-size
 mul-size c = search rules
 
 returns-3 : tie.Need-returns-then-room-size
-returns-3 c = rw (lt-ltb _ _ c.if-room-size.true)
+returns-3 c =
+    let a = c.args in
+    rw (lt-ltb a.room (4 * (8 + a.params + a.words + padded a.bytes)) c.if-room-size.true)
 
 returns-4 : tie.Need-returns
-returns-4 c = rw (le-ltb _ _ c.if-room-size.false)
+returns-4 c =
+    let a = c.args in
+    rw (le-ltb a.room (4 * (8 + a.params + a.words + padded a.bytes)) c.if-room-size.false)
 
 pub no_room_spec : {M : Type 1} → statement M
 no_room_spec =
