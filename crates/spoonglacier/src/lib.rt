@@ -1,4 +1,5 @@
-// The functions that a program in C links; include/spoonglacier.h declares them.
+// What the functions do that a program in C links: `spoonglacier_c` exports them, and
+// include/spoonglacier.h declares them.
 #![tactic(auto)]
 
 ghost use Rattle.fixed.specs.Fixed.{from_bits};
@@ -14,8 +15,7 @@ use fixed::Fixed;
 
 // Runs a script into a lent output; answers 01's number, and leaves its place behind the last
 // pointer.
-#[unsafe(no_mangle)]
-pub extern "C" fn spoonglacier_run(script: &[u8], out: &mut [i32], place: &mut usize) -> u32
+pub fn spoonglacier_run(script: &[u8], out: &mut [i32], place: &mut usize) -> u32
     ensures { Returned (script_of script.now out.old) result out.new place.new }
 {
     let answer = script::run_script(script, out);
@@ -25,8 +25,7 @@ pub extern "C" fn spoonglacier_run(script: &[u8], out: &mut [i32], place: &mut u
 
 // Writes a script into a lent buffer; answers the writer's number, and leaves the bytes that were
 // written and the place behind the last two pointers.
-#[unsafe(no_mangle)]
-pub extern "C" fn spoonglacier_write(
+pub fn spoonglacier_write(
     scale: i32,
     params: &[i32],
     commands: &[i32],
@@ -49,8 +48,7 @@ pub extern "C" fn spoonglacier_write(
 // Lists the edges of the map that a script has after its first so many commands, six words a
 // record; answers the look's number, and leaves the summary's four counts and the place behind the
 // last five pointers.
-#[unsafe(no_mangle)]
-pub extern "C" fn spoonglacier_edges(
+pub fn spoonglacier_edges(
     script: &[u8],
     commands: usize,
     list: &mut [i32],
@@ -75,8 +73,7 @@ pub extern "C" fn spoonglacier_edges(
 
 // Hints the glyphs of a label into one result; answers the label run's number, and leaves the words
 // of the result, the glyph and the place behind the last three pointers.
-#[unsafe(no_mangle)]
-pub extern "C" fn spoonglacier_labels(
+pub fn spoonglacier_labels(
     scale: i32,
     params: &[i32],
     commands: &[i32],
