@@ -99,6 +99,7 @@ fn room_down(below: Neighbour, low: Fixed, by: Fixed) -> bool
 }
 
 // From `adjust`: the move that is made, by the room there is.
+#[tactic(auto, unfolding(crate::specs::Adjust::choice_of))]
 fn choose(up: bool, down: bool, moves: Moves) -> Choice
     ensures { result ≡ choice_of up down moves }
 {
@@ -136,6 +137,7 @@ fn choose(up: bool, down: bool, moves: Moves) -> Choice
 
 // From `adjust`: what is noted. Only an unlocked edge above can make room for a hint that fell
 // short.
+#[tactic(auto, unfolding(crate::specs::Adjust::note_of))]
 fn noted(above: Neighbour, short: bool, missing: Fixed) -> Note
     ensures { result ≡ note_of above short missing }
 {

@@ -11,7 +11,8 @@ use lib.IntN.{ℤ}
 use lib.ListN.{length, drop}
 use Rattle.stems.specs.declared.edge.Hint.{Hint}
 use Rattle.stems.specs.declared.edge.StemHint.{StemHint}
-use Rattle.stems.specs.Lists.{held, stem_in, stems_in, set_stem}
+use Rattle.stems.specs.Edge.{max_hints}
+use Rattle.stems.specs.Lists.{hint_in, held, stem_in, stems_in, set_stem}
 use Rattle.stems.proofs.Places.{stem-in, stems-long, stem-put, set_long}
 use Rattle.hintmap.proofs.Lent.{held-length, held_at}
 use Rattle.build.specs.Build.{saved_stem, saved_in, saved_all, no_stem}
@@ -36,56 +37,51 @@ saved-in l n e st long p r q =
     sym (ap (λ (xs : List StemHint). record { list = xs; count = n }) (stem-put l long e.index p st n) ∙
     save-stem e (stems_in l n) st r (q ∙ ap (saved_stem e) (sym (stem-in l n e.index no_stem p))))
 
--- ---- the edge that is saved
-module _ (c : tie.After-edge_at-edge invariant-loop decreases-loop) where
-  abbrev at : tie.At-loop-i invariant-loop decreases-loop
-  at = c.before.before
-
-  -- whatever the stems become by it, the edges after it are left
-  again : (ns : List ℤ) → length ns ≡ 480 →
-      ((n : ℕ) → saved_in c.edge_at-edge.result (stems_in at.loop-i.stems n) ≡ stems_in ns n) →
-      invariant-loop at.args.stems.now at.args.lines.now at.args.tags.now
-      at.args.len 0 ns (at.loop-i.i + 1)
-  again ns long e =
-      let es = held at.args.lines.now at.args.tags.now at.args.len in
-      let l = held-length at.args.lines.now at.args.tags.now at.args.len
-      at.requires.1 in
-      let k : at.loop-i.i < length es = omega (arith, l) in (
-        omega arith,
-        (
-          long,
-          λ n. at.loop-i.invariant.1.1 n ∙ save-more es (stems_in at.loop-i.stems n) at.loop-i.i k ∙
-              ap (λ (x : Hint). saved_all (drop (at.loop-i.i + 1) es) (saved_in x (stems_in at.loop-i.stems n)))
-              (held_at at.args.lines.now at.args.tags.now at.args.len
-              at.requires.1 at.loop-i.i (omega arith) ∙
-              sym c.edge_at-edge.ensures) ∙
-              ap (saved_all (drop (at.loop-i.i + 1) es)) (e n),
-        ),
-      )
+-- whatever the stems become by an edge, the edges after it are left
+again : (first lines : List ℤ) (tags : List ℕ) (len : ℕ) (stems : List ℤ) (i : ℕ) (x : Hint) (ns : List ℤ) →
+    len ≤ max_hints → i < len → invariant-loop first lines tags len 0 stems i → x ≡ hint_in lines tags i →
+    length ns ≡ 480 → ((n : ℕ) → saved_in x (stems_in stems n) ≡ stems_in ns n) →
+    invariant-loop first lines tags len 0 ns (i + 1)
+again first lines tags len stems i x ns most less kept is long e =
+    let es = held lines tags len in
+    let l = held-length lines tags len most in
+    let k : i < length es = omega (arith, l) in (
+      omega arith,
+      (
+        long,
+        λ n. kept.1.1 n ∙ save-more es (stems_in stems n) i k ∙
+            ap (λ (y : Hint). saved_all (drop (i + 1) es) (saved_in y (stems_in stems n)))
+            (held_at lines tags len most i less ∙ sym is) ∙
+            ap (saved_all (drop (i + 1) es)) (e n),
+      ),
+    )
 
 loop-again : tie.Need-loop-i-preserved-then-is_synthetic invariant-loop decreases-loop
 loop-again c =
-    let e = c.before.before in
-    again e _ (at e).loop-i.invariant.1.0
-    (λ n. save-synthetic e.edge_at-edge.result _ (sym c.is_synthetic.ensures ∙ c.if-is_synthetic.true))
+    again c.args.stems.now c.args.lines.now c.args.tags.now c.args.len c.loop-i.stems c.loop-i.i
+    c.edge_at-edge.result c.loop-i.stems c.requires.1 (omega arith) c.loop-i.invariant
+    c.edge_at-edge.ensures c.loop-i.invariant.1.0
+    (λ n. save-synthetic c.edge_at-edge.result _ (sym c.is_synthetic.ensures ∙ c.if-is_synthetic.true))
 
 loop-again-2 : tie.Need-loop-i-preserved invariant-loop decreases-loop
 loop-again-2 c =
-    let s = c.before.before in
-    let e = s.before.before in
-    let n = (at e).loop-i.invariant.1.0 in
-    let real = sym s.is_synthetic.ensures ∙ s.if-is_synthetic.false in
-    let x = e.edge_at-edge.result in
+    let n = c.loop-i.invariant.1.0 in
+    let real = sym c.is_synthetic.ensures ∙ c.if-is_synthetic.false in
+    let x = c.edge_at-edge.result in
+    let next = λ (ns : List ℤ) (long : length ns ≡ 480)
+    (e : (m : ℕ) → saved_in x (stems_in c.loop-i.stems m) ≡ stems_in ns m).
+    again c.args.stems.now c.args.lines.now c.args.tags.now c.args.len c.loop-i.stems c.loop-i.i
+    x ns c.requires.1 (omega arith) c.loop-i.invariant c.edge_at-edge.ensures long e in
     elim c.if-k-lt-MAX_HINTS.branch [
       | then-k-lt-MAX_HINTS w ↦
           let k : x.index < 96 = search (rules, w.if-k-lt-MAX_HINTS.true) in
           let q = w.stems-is ∙ w.put_stem.ensures in
           let f = w.saved.ensures ∙ ap (saved_stem x) w.stem_at.ensures in
-          again e _ (rw q (set_long _ n x.index k _))
+          next _ (rw q (set_long _ n x.index k _))
           (λ m. saved-in _ m x _ n k real f ∙ sym (ap (λ y. stems_in y m) q))
       | else-k-lt-MAX_HINTS w ↦
-          again e _ (rw w.stems-is n)
-          (λ m. save-past x _ (omega (arith, w.if-k-lt-MAX_HINTS.false, stems-long (at e).loop-i.stems m)) ∙
+          next _ (rw w.stems-is n)
+          (λ m. save-past x _ (omega (arith, w.if-k-lt-MAX_HINTS.false, stems-long c.loop-i.stems m)) ∙
           sym (ap (λ y. stems_in y m) w.stems-is))
     ]
 

@@ -2,6 +2,7 @@
 use mathlib.Core.Path.{◌≡◌, refl, sym, ap, ◌∙◌}
 use mathlib.Core.Bool.{true, false}
 use lib.IntN.{pos}
+use lib.Signed.{lt_z}
 use borrow.Author.Rules.{rules}
 use mir.Syntax.{w32}
 use mir.Val.{SFits}
@@ -35,12 +36,12 @@ returns : tie.Need-returns-then-scale-lt1
 unfolding open_of
 returns c =
     let s = c.before.before.before.before in
-    let small : less_f s.args.scale (from_bits (pos 1)) ≡ true = rw (to_z-of_z (fits s)) at c.if-scale-lt1.true in
+    let small = sym (ap (λ z. lt_z z (pos 1)) (to_z-of_z (fits s))) ∙ c.if-scale-lt1.true in
     opens (rw small c.refused.ensures)
 
 -- the scale is not below the least
 large : (c : tie.Else-scale-lt1) → less_f c.args.scale (from_bits (pos 1)) ≡ false
-large c = rw (to_z-of_z (fits c.before.before.before)) at c.if-scale-lt1.false
+large c = sym (ap (λ z. lt_z z (pos 1)) (to_z-of_z (fits c.before.before.before))) ∙ c.if-scale-lt1.false
 
 counts-fit-requires : tie.Need-counts_fit-requires
 counts-fit-requires c κs = search rules

@@ -1,13 +1,17 @@
 -- `check_params` makes the tests of `param_rows` in their order: one that holds gives the answer,
 -- and one that does not is passed. Assumes nothing.
-use mathlib.Core.Path.{refl, sym}
+use mathlib.Core.Path.{◌≡◌, refl, sym, ap, ◌∙◌}
 use mathlib.Core.List.{List}
 use Prim.Native.Nat.{ℕ}
+use lib.IntN.{pos}
+use lib.Signed.{lt_z}
 use mir.Syntax.{w32}
-use mir.Val.{SFits}
+use mir.Val.{SFits, to_z, of_z}
 use mir.Facts.{to_z-of_z}
 use borrow.Author.Rules.{rules}
-use Rattle.words.specs.Words.{raw_at}
+use Rattle.fixed.specs.declared.Fixed.{Fixed}
+use Rattle.fixed.specs.Fixed.{from_bits, less_f}
+use Rattle.words.specs.Words.{raw_at, number_at}
 use Rattle.words.specs.Rows.{first_or}
 use Rattle.words.proofs.Answers.{says}
 use Rattle.header.specs.Params.{param_rows}
@@ -19,6 +23,11 @@ use Rattle.header.proofs.checks.check_params.Tie as tie
 fits : (c : tie.After-struct_told-1) → SFits w32 c.number.result.bits
 fits c = search rules
 
+-- its test is that of the number that stands there
+scale : (c : tie.After-struct_told-1) → lt_z (to_z w32 (of_z w32 c.number.result.bits)) (pos 1) ≡
+    less_f (number_at (raw_at c.args.script.now) 1) (from_bits (pos 1))
+scale c = ap (λ z. lt_z z (pos 1)) (to_z-of_z (fits c) ∙ ap (λ (f : Fixed). f.bits) c.number.ensures)
+
 abbrev script : tie.Else-number-lt1 → List ℕ
 script c = c.args.script.now
 
@@ -26,7 +35,7 @@ at1 : (c : tie.Else-number-lt1) → Past (param_rows (raw_at (script c))) 1
 unfolding param_rows
 at1 c =
     pass 0 (record { rest = refl })
-    (rw (to_z-of_z (fits c.before), c.number.ensures) at c.if-number-lt1.false)
+    (sym (scale c.before) ∙ c.if-number-lt1.false)
 
 at2 : (c : tie.Else-blues-gt-MAX_BLUES) → Past (param_rows (raw_at (script c.before.before))) 2
 unfolding param_rows
@@ -53,7 +62,7 @@ returns : tie.Need-returns-then-number-lt1
 unfolding param_rows
 returns c =
     says (stop 0 (record { rest = refl })
-    (rw (to_z-of_z (fits c.before), c.number.ensures) at c.if-number-lt1.true))
+    (sym (scale c.before) ∙ c.if-number-lt1.true))
 
 natural-requires : tie.Need-natural-blues-requires
 natural-requires c κs = search rules
