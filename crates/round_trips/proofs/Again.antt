@@ -126,7 +126,7 @@ module _ (s : List ℕ) (held : Bytes s) (e : first_of (check_rows s) ≡ Ok) wh
         none-masked ok (piece_rows 0 (raw_at s 7) bare) last (masked 0 (raw_at s 7) sound) (rw a at n)
 
     -- masks that lie end to end are written as they were
-    written : EndToEnd s → WrittenAgain s lent
+    pub written : EndToEnd s → WrittenAgain s lent
     unfolding write_of
     written q =
         let f = (passed s e).fine in
@@ -137,7 +137,7 @@ module _ (s : List ℕ) (held : Bytes s) (e : first_of (check_rows s) ≡ Ok) wh
         rw (a, i)
 
     -- and those that are written as they were lie end to end
-    end_to_end : WrittenAgain s lent → EndToEnd s
+    pub end_to_end : WrittenAgain s lent → EndToEnd s
     unfolding write_of
     end_to_end q =
         let a : write_answer g (length lent) ≡ Written (length s) = ap (λ (r : WriteResult). r.answer) q in
@@ -149,12 +149,7 @@ module _ (s : List ℕ) (held : Bytes s) (e : first_of (check_rows s) ≡ Ok) wh
         let z : 0 + raw_at s 7 ≡ raw_at s 7 = omega arith in
         rw (script-parts s held e) (rw z at (start-lie 0 0 (raw_at s 7) sound t (sym b)))
 
--- ---- the laws
--- the same bytes exactly if its masks lie end to end
-pub again : (s lent : List ℕ) → Bytes s → length s ≤ length lent → first_of (check_rows s) ≡ Ok →
-    (EndToEnd s → WrittenAgain s lent) × (WrittenAgain s lent → EndToEnd s)
-again s lent held room e = (written s held e lent room, end_to_end s held e lent room)
-
+-- ---- the law of its answer
 -- an answer that is not BAD_MASK is that as many bytes are written as the script has
 pub otherwise : (s lent : List ℕ) → Bytes s → length s ≤ length lent → first_of (check_rows s) ≡ Ok →
     (write_number (write_answer (given_in s) (length lent)) ≡ 5 → ⊥) →
