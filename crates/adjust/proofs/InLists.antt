@@ -16,7 +16,7 @@ use Rattle.stems.proofs.Places.{on_line, line-whole}
 use Rattle.hintmap.specs.declared.map.HintMap.{HintMap}
 use Rattle.hintmap.specs.Lent.{map_in, Lent}
 use Rattle.hintmap.proofs.Lent.{read_is, line-map}
-use Rattle.adjust.specs.declared.Note.TheVariants.{Missing}
+use Rattle.std.proofs.Common.{Some}
 use Rattle.adjust.specs.Adjust.{edge_at, with_edge}
 use Rattle.adjust.specs.Pass.{noted_of}
 use Rattle.adjust.specs.Adjusted.{notes_in}
@@ -91,6 +91,6 @@ map-set (x ∷ l) (suc i) z = ap (λ (fs : List Fixed). from_bits x ∷ fs) (map
 
 -- a note more
 pub noted_in : (at : List ℕ) (by : List ℤ) (k j : ℕ) (x : Fixed) →
-    noted_of (notes_in at by k) j (Missing x) ≡ notes_in (set at k j) (set by k x.bits) (k + 1)
+    noted_of (notes_in at by k) j (Some x) ≡ notes_in (set at k j) (set by k x.bits) (k + 1)
 unfolding notes_in noted_of
 noted_in at by k j x = rw (map-set by k x.bits)

@@ -13,8 +13,7 @@ use borrow.Author.Tests.{ltb-true, ltb-false}
 use Rattle.fixed.specs.declared.Fixed.{Fixed}
 use Rattle.fixed.specs.Fixed.{from_bits, ZERO}
 use Rattle.hintmap.specs.declared.map.HintMap.{HintMap}
-use Rattle.adjust.specs.declared.Note.{Note}
-use Rattle.adjust.specs.declared.Note.TheVariants.{Settled, Missing}
+use Rattle.std.proofs.Common.{Option, Some, None}
 use Rattle.adjust.specs.Pass.{Notes, Pass, upper_of, noted_of, turn_of, pass_from, first_pass}
 use Rattle.adjust.specs.Second.{second_pass, second_of, adjust_of}
 use Rattle.adjust.specs.Adjusted.{notes_in}
@@ -68,11 +67,11 @@ Same n = (i : ℕ) (m : HintMap) (at : List ℕ) (c : ℕ) (l l' : List Fixed) �
     second_of (pass_from n i (so_far m (noted at l c))) ≡ second_of (pass_from n i (so_far m (noted at l' c)))
 
 turn-same : (n : ℕ) → Same n → (i j : ℕ) (m : HintMap) (at : List ℕ) (c : ℕ) (l l' : List Fixed) → Agree c l l' →
-    (t : Note) → second_of (pass_from n i (so_far m (noted_of (noted at l c) j t))) ≡
+    (t : Option Fixed) → second_of (pass_from n i (so_far m (noted_of (noted at l c) j t))) ≡
     second_of (pass_from n i (so_far m (noted_of (noted at l' c) j t)))
 unfolding noted_of
-turn-same n f i j m at c l l' a Settled = f i m at c l l' a
-turn-same n f i j m at c l l' a (Missing x) =
+turn-same n f i j m at c l l' a None = f i m at c l l' a
+turn-same n f i j m at c l l' a (Some x) =
     f i m (set at c j) (c + 1) (set l c x) (set l' c x) (agree-put c x l l' a)
 
 by-test : (b : Bool) (p p' q q' : Pass) → second_of p ≡ second_of p' → second_of q ≡ second_of q' →

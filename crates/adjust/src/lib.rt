@@ -14,52 +14,41 @@ use fixed::Fixed;
 use stems::{Hint, LINES, MAX_HINTS, TAGS, edge_at, put_line};
 
 // The smallest move up and the smallest move down. A move down is not above 0.
-#[derive(Clone, Copy)]
+#[derive(Clone, Copy, Debug, PartialEq, Eq)]
 pub struct Moves {
     pub up: Fixed,
     pub down: Fixed,
 }
 
 // The move that is made, and whether there was no room for a shorter move up, or for any.
-#[derive(Clone, Copy)]
+#[derive(Clone, Copy, Debug, PartialEq, Eq)]
 pub struct Choice {
     pub by: Fixed,
     pub short: bool,
 }
 
-// Whether a hint misses a move.
-#[derive(Clone, Copy)]
-pub enum Note {
-    Settled,
-    Missing(Fixed),
-}
-
-// The edge above or below a hint, where there is one.
-#[derive(Clone, Copy)]
-pub enum Neighbour {
-    Absent,
-    Edge(Hint),
-}
-
-// The edges of a hint once it is moved, and what is noted of it.
-#[derive(Clone, Copy)]
+// The edges of a hint once it is moved, and the move that it misses.
+#[derive(Clone, Copy, Debug, PartialEq, Eq)]
 pub struct Aligned {
     pub low: Hint,
     pub high: Hint,
-    pub note: Note,
+    pub note: Option<Fixed>,
 }
 
 // From `adjust`: the move up from a fraction to the next whole pixel.
+#[tactic(auto, unfolding(crate::specs::Adjust::to_next))]
 fn to_next(fraction: Fixed) -> Fixed
     ensures { result ≡ to_next fraction }
 {
-    if fraction.same(Fixed::ZERO) {
-        return Fixed::ZERO;
+    if fraction == Fixed::ZERO {
+        Fixed::ZERO
+    } else {
+        Fixed::ONE.sub(fraction)
     }
-    Fixed::ONE.sub(fraction)
 }
 
 // From `adjust`: the smallest moves that put one of two edges on a whole pixel.
+#[tactic(auto, unfolding(crate::specs::Adjust::moves_of))]
 fn smallest(low: Fixed, high: Fixed) -> Moves
     ensures { result ≡ moves_of low high }
 {
@@ -72,29 +61,25 @@ fn smallest(low: Fixed, high: Fixed) -> Moves
 }
 
 // From `adjust`: whether there is room for an upper edge to move up. A counter keeps half a pixel
-// at least.
-fn room_up(above: Neighbour, high: Fixed, by: Fixed) -> bool
+// at least. Its mirror, `room_down`, is a function of its own, as the definitions name both.
+#[tactic(auto, unfolding(crate::specs::Adjust::room_up))]
+fn room_up(above: Option<Hint>, high: Fixed, by: Fixed) -> bool
     ensures { result ≡ room_up above high by }
 {
     match above {
-        Neighbour::Absent => true,
-        Neighbour::Edge(edge) => {
-            let least = high.add(by).add(Fixed::HALF);
-            least.at_most(edge.ds_coord)
-        }
+        Some(edge) => high.add(by).add(Fixed::HALF) <= edge.ds_coord,
+        None => true,
     }
 }
 
 // From `adjust`: whether there is room for a lower edge to move down.
-fn room_down(below: Neighbour, low: Fixed, by: Fixed) -> bool
+#[tactic(auto, unfolding(crate::specs::Adjust::room_down))]
+fn room_down(below: Option<Hint>, low: Fixed, by: Fixed) -> bool
     ensures { result ≡ room_down below low by }
 {
     match below {
-        Neighbour::Absent => true,
-        Neighbour::Edge(edge) => {
-            let most = low.add(by).sub(Fixed::HALF);
-            edge.ds_coord.at_most(most)
-        }
+        Some(edge) => edge.ds_coord <= low.add(by).sub(Fixed::HALF),
+        None => true,
     }
 }
 
@@ -105,57 +90,40 @@ fn choose(up: bool, down: bool, moves: Moves) -> Choice
 {
     let rise = moves.up;
     let fall = moves.down;
-    if up {
-        if down {
-            if fall.neg().less(rise) {
-                return Choice {
-                    by: fall,
-                    short: false,
-                };
-            }
-            return Choice {
-                by: rise,
-                short: false,
-            };
-        }
-        return Choice {
+    match (up, down) {
+        (true, true) => Choice {
+            by: if fall.neg() < rise { fall } else { rise },
+            short: false,
+        },
+        (true, false) => Choice {
             by: rise,
             short: false,
-        };
-    }
-    if down {
-        return Choice {
+        },
+        (false, true) => Choice {
             by: fall,
-            short: rise.less(fall.neg()),
-        };
-    }
-    Choice {
-        by: Fixed::ZERO,
-        short: true,
+            short: rise < fall.neg(),
+        },
+        (false, false) => Choice {
+            by: Fixed::ZERO,
+            short: true,
+        },
     }
 }
 
 // From `adjust`: what is noted. Only an unlocked edge above can make room for a hint that fell
 // short.
 #[tactic(auto, unfolding(crate::specs::Adjust::note_of))]
-fn noted(above: Neighbour, short: bool, missing: Fixed) -> Note
+fn noted(above: Option<Hint>, short: bool, missing: Fixed) -> Option<Fixed>
     ensures { result ≡ note_of above short missing }
 {
     match above {
-        Neighbour::Absent => Note::Settled,
-        Neighbour::Edge(edge) => {
-            if !short {
-                return Note::Settled;
-            }
-            if edge.is_locked() {
-                return Note::Settled;
-            }
-            Note::Missing(missing)
-        }
+        Some(edge) if short && !edge.is_locked() => Some(missing),
+        _ => None,
     }
 }
 
 // From `adjust`: an edge moved on the device.
+#[tactic(auto, unfolding(crate::specs::Adjust::moved_hint))]
 fn moved(edge: Hint, by: Fixed) -> Hint
     ensures { result ≡ moved_hint edge by }
 {
@@ -163,14 +131,15 @@ fn moved(edge: Hint, by: Fixed) -> Hint
 }
 
 // From `adjust`: an unlocked hint is moved, and noted where it fell short.
-fn settle(below: Neighbour, low: Hint, high: Hint, above: Neighbour) -> Aligned
+#[tactic(auto, unfolding(crate::specs::Adjust::settle_of))]
+fn settle(below: Option<Hint>, low: Hint, high: Hint, above: Option<Hint>) -> Aligned
     ensures { result ≡ settle_of below low high above }
 {
     if low.is_locked() {
         return Aligned {
             low,
             high,
-            note: Note::Settled,
+            note: None,
         };
     }
     let moves = smallest(low.ds_coord, high.ds_coord);
@@ -178,53 +147,48 @@ fn settle(below: Neighbour, low: Hint, high: Hint, above: Neighbour) -> Aligned
     let down = room_down(below, low.ds_coord, moves.down);
     let choice = choose(up, down, moves);
     let missing = moves.up.sub(choice.by);
-    let note = noted(above, choice.short, missing);
-    let low = moved(low, choice.by);
-    let high = moved(high, choice.by);
-    Aligned { low, high, note }
+    Aligned {
+        low: moved(low, choice.by),
+        high: moved(high, choice.by),
+        note: noted(above, choice.short, missing),
+    }
 }
 
 // From `adjust`: an edge with the scale of the line from it to the next.
+#[tactic(auto, unfolding(crate::specs::Adjust::rescaled_hint))]
 fn rescaled(below: Hint, edge: Hint) -> Hint
     ensures { result ≡ rescaled_hint below edge }
 {
-    if edge.cs_coord.same(below.cs_coord) {
+    if edge.cs_coord == below.cs_coord {
         return below;
     }
     let rise = edge.ds_coord.sub(below.ds_coord);
-    let mut after = below;
-    after.scale = rise.div(edge.cs_coord.sub(below.cs_coord));
-    after
+    Hint {
+        scale: rise.div(edge.cs_coord.sub(below.cs_coord)),
+        ..below
+    }
 }
 
 // The place before one, and the place after it. The first stays, and so does the last.
 fn previous(k: usize) -> usize
     ensures { result ≡ k - 1 }
 {
-    if 0 < k {
-        return k - 1;
-    }
-    0
+    k.saturating_sub(1)
 }
 
+#[tactic(auto, unfolding(crate::specs::Pass::next_place))]
 fn next(k: usize, len: usize) -> usize
     requires { k < max_hints }
     ensures { result ≡ next_place len k }
 {
-    if k + 1 < len {
-        return k + 1;
-    }
-    k
+    if k + 1 < len { k + 1 } else { k }
 }
 
 // The edge beside a hint, where there is one.
-fn beside(there: bool, edge: Hint) -> Neighbour
+fn beside(there: bool, edge: Hint) -> Option<Hint>
     ensures { result ≡ beside_by there edge }
 {
-    if there {
-        return Neighbour::Edge(edge);
-    }
-    Neighbour::Absent
+    there.then_some(edge)
 }
 
 // From `adjust`: the place of the upper edge of the hint whose lower edge is at i. Above a pair's
@@ -233,27 +197,14 @@ fn upper(edge: Hint, i: usize, len: usize) -> usize
     requires { i < max_hints }
     ensures { result ≡ upper_by (is_pair edge) len i }
 {
-    if edge.is_pair() {
-        return next(i, len);
-    }
-    i
+    if edge.is_pair() { next(i, len) } else { i }
 }
 
 // From `adjust`: the place of the lower edge of the hint whose upper edge is at j.
 fn lower(edge: Hint, j: usize) -> usize
     ensures { result ≡ lower_by (is_pair edge) j }
 {
-    if edge.is_pair() {
-        return previous(j);
-    }
-    j
-}
-
-// A place as the notes have it.
-fn wide(place: u8) -> usize
-    ensures { result ≡ place }
-{
-    place as usize
+    if edge.is_pair() { previous(j) } else { j }
 }
 
 // From `adjust`: the second pass, newest note first, lifts hints for which the moves above them have
@@ -271,12 +222,9 @@ fn second_pass(
     ensures { Retried lines.old tags.now len at.now by.now count
         lines.new }
 {
-    let mut k = count;
-    while 0 < k {
-        k -= 1;
-        let j = wide(at[k]);
-        let bits = by[k];
-        let missing = Fixed { bits };
+    for k in (0..count).rev() {
+        let j = at[k] as usize;
+        let missing = Fixed { bits: by[k] };
         if len <= j {
             continue;
         }
@@ -303,6 +251,7 @@ pub fn adjust(lines: &mut [i32; LINES], tags: &[u8; TAGS], len: usize, by: &mut 
     let mut at = [0u8; MAX_HINTS];
     let mut count: usize = 0;
     let mut i: usize = 0;
+    // A turn takes the one or two edges of a hint.
     while i < len {
         let low = edge_at(lines, tags, i);
         let j = upper(low, i, len);
@@ -311,22 +260,19 @@ pub fn adjust(lines: &mut [i32; LINES], tags: &[u8; TAGS], len: usize, by: &mut 
         let below = edge_at(lines, tags, b);
         let n = next(j, len);
         let above = edge_at(lines, tags, n);
-        let aligned = settle(beside(0 < i, below), low, high, beside(j + 1 < len, above));
-        let bottom = aligned.low;
-        let top = aligned.high;
-        let note = aligned.note;
+        let Aligned {
+            low: bottom,
+            high: top,
+            note,
+        } = settle(beside(0 < i, below), low, high, beside(j + 1 < len, above));
         put_line(lines, b, rescaled(below, bottom));
         put_line(lines, i, rescaled(bottom, top));
         put_line(lines, j, top);
         i = j + 1;
-        match note {
-            Note::Settled => {}
-            Note::Missing(missing) => {
-                let bits = missing.bits;
-                at[count] = j as u8;
-                by[count] = bits;
-                count += 1;
-            }
+        if let Some(missing) = note {
+            at[count] = j as u8;
+            by[count] = missing.bits;
+            count += 1;
         }
     }
     second_pass(lines, tags, len, &at, by, count);

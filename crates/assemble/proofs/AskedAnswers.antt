@@ -11,9 +11,10 @@ use borrow.Author.Tests.{ltb-false, lt-ltb, le-ltb, eqb-true, eqb-false}
 use Rattle.fixed.proofs.Tests.{both_false}
 use Rattle.words.specs.Words.{raw_at}
 use Rattle.words.specs.Rows.{first_or}
-use Rattle.writer.specs.declared.write_answer.WriteAnswer.{WriteAnswer}
-use Rattle.writer.specs.declared.write_answer.WriteAnswer.TheVariants.{Written, BadScale, BadBlues, BadCommand}
-use Rattle.writer.specs.declared.write_answer.WriteAnswer.TheVariants.{BadMask, ScriptRoom}
+use Rattle.writer.specs.Refusals.{WriteAnswer}
+use Rattle.writer.specs.declared.write_answer.WriteRefusal.TheVariants.{BadScale, BadBlues, BadCommand, BadMask}
+use Rattle.writer.specs.declared.write_answer.WriteRefusal.TheVariants.{ScriptRoom}
+use Rattle.std.proofs.Common.{Ok, Err}
 use Rattle.writer.specs.ToWrite.{Given, script_for}
 use Rattle.writer.specs.Refusals.{write_number, written_bytes, write_refuses, room_row, write_answer, buffer_by}
 use Rattle.writer.specs.Refusals.{write_of, Wrote}
@@ -31,16 +32,16 @@ module _ (b : List ℕ) where
   few : raw_at b 65 ≤ 16384 → raw_at b 66 ≤ 65536 → too_many b ≡ false
   few h k = rw (le-ltb 16384 (raw_at b 65) h, le-ltb 65536 (raw_at b 66) k)
 
-  by-counts : {t : Bool} → too_many b ≡ t → answer_to b ≡ cond t ScriptRoom (write_answer (asked_in b) 65536)
+  by-counts : {t : Bool} → too_many b ≡ t → answer_to b ≡ cond t (Err ScriptRoom) (write_answer (asked_in b) 65536)
   unfolding answer_to
-  by-counts e = ap (λ (t : Bool). cond t ScriptRoom (write_answer (asked_in b) 65536)) e
+  by-counts e = ap (λ (t : Bool). cond t (Err ScriptRoom) (write_answer (asked_in b) 65536)) e
 
   -- ---- the answer and the buffer
   module _ (lent : List ℕ) where
     abbrev left_by : WriteAnswer → List ℕ
     left_by a = buffer_by (write_refuses a) (script_for (asked_in b)) lent
 
-    pub not-looked : too_many b ≡ true → Wrote (answer_in b lent) ScriptRoom lent
+    pub not-looked : too_many b ≡ true → Wrote (answer_in b lent) (Err ScriptRoom) lent
     unfolding answer_in
     not-looked e = record { answer = sym (by-counts e); memory = sym (ap left_by (by-counts e)) }
 
@@ -61,16 +62,16 @@ module _ (b : List ℕ) where
 
 -- ---- the bytes that an answer counts
 refused_none : (a : WriteAnswer) → 0 < write_number a → written_bytes a ≡ 0
-refused_none (Written n) h = absurd (omega arith)
-refused_none BadScale h = refl
-refused_none (BadBlues p) h = refl
-refused_none (BadCommand p) h = refl
-refused_none (BadMask p) h = refl
-refused_none ScriptRoom h = refl
+refused_none (Ok n) h = absurd (omega arith)
+refused_none (Err BadScale) h = refl
+refused_none (Err (BadBlues p)) h = refl
+refused_none (Err (BadCommand p)) h = refl
+refused_none (Err (BadMask p)) h = refl
+refused_none (Err ScriptRoom) h = refl
 
 -- an answer counts a script's bytes if it is OK
 abbrev Counts : List ℕ → WriteAnswer → Type 0
-Counts s a = write_number a ≡ 0 → (a ≡ Written (length s)) × (length s ≤ 65536)
+Counts s a = write_number a ≡ 0 → (a ≡ Ok (length s)) × (length s ≤ 65536)
 
 -- the writer's does
 module _ (g : Given) (room : ℕ) where
@@ -78,9 +79,9 @@ module _ (g : Given) (room : ℕ) where
   n = length (script_for g)
 
   abbrev fault : WriteAnswer
-  fault = first_or (Written 0) (before g)
+  fault = first_or (Ok 0) (before g)
 
-  by-room-test : (t : Bool) → (room_row n room).fault ≡ t → Counts (script_for g) (cond t ScriptRoom (Written n))
+  by-room-test : (t : Bool) → (room_row n room).fault ≡ t → Counts (script_for g) (cond t (Err ScriptRoom) (Ok n))
   by-room-test true e z = absurd (omega (arith, z))
   by-room-test false e z = (refl, ltb-false 65536 n (both_false (ltb room n) (ltb 65536 n) e).1)
 

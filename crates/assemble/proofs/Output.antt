@@ -10,7 +10,7 @@ use lib.Seq.{length-take-le, drop-append-le, drop_at, drop-drop}
 use borrow.Rule.Slice.PartMut.{put_mid}
 use Rattle.words.specs.Bytes.{bytes_of, laid, over}
 use Rattle.words.proofs.Laid.{bytes-length, laid-behind, low-laid}
-use Rattle.writer.specs.declared.write_answer.WriteAnswer.{WriteAnswer}
+use Rattle.writer.specs.Refusals.{WriteAnswer}
 use Rattle.writer.specs.ToWrite.{script_for}
 use Rattle.writer.specs.Refusals.{write_number, write_place, written_bytes, write_refuses, buffer_by, Wrote}
 use Rattle.assemble.specs.Asked.{asked_in, answer_to, answer_in, program_bytes, AtStart}

@@ -1,11 +1,12 @@
 -- What the program's input asks for, and what the program writes: number, place and, if OK, the
 -- script.
 use Rattle.std.specs.Prelude.{◌≡◌, Bool, cond, ◌||◌, List, [], ◌∷◌, ◌++◌, map, ℕ, ◌+◌, ◌*◌, ltb, length, take, drop}
+use Rattle.std.specs.Prelude.{Err}
 use Rattle.fixed.specs.Integers.{signed}
 use Rattle.words.specs.Bytes.{bytes_of, over}
 use Rattle.words.specs.Words.{raw_at, number_at, words_from}
-use Rattle.writer.specs.declared.write_answer.WriteAnswer.{WriteAnswer}
-use Rattle.writer.specs.declared.write_answer.WriteAnswer.TheVariants.{ScriptRoom}
+use Rattle.writer.specs.Refusals.{WriteAnswer}
+use Rattle.writer.specs.declared.write_answer.WriteRefusal.TheVariants.{ScriptRoom}
 use Rattle.writer.specs.ToWrite.{Given, given, script_for}
 use Rattle.writer.specs.ParamWords.{params_in}
 use Rattle.writer.specs.Refusals.{write_number, write_place, write_refuses, write_answer, WriteResult, buffer_by}
@@ -26,7 +27,7 @@ abbrev pub too_many : List ℕ → Bool
 too_many b = ltb 16384 (raw_at b 65) || ltb 65536 (raw_at b 66)
 
 unfoldable pub answer_to : List ℕ → WriteAnswer
-answer_to b = cond (too_many b) ScriptRoom (write_answer (asked_in b) 65536)
+answer_to b = cond (too_many b) (Err ScriptRoom) (write_answer (asked_in b) 65536)
 
 -- the answer, and the buffer with it
 unfoldable pub answer_in : List ℕ → List ℕ → WriteResult

@@ -4,7 +4,7 @@ ghost use Rattle.writer.specs.Refusals.{write_of, Wrote};
 ghost use Rattle.assemble.specs.Asked.{asked_by, answer_in};
 
 use words::{layout, natural, number, read_words};
-use writer::{WriteAnswer, params_from, write_script};
+use writer::{WriteAnswer, WriteRefusal, params_from, write_script};
 
 // Where the words of the input stand.
 const SCALE: usize = 0;
@@ -52,11 +52,8 @@ pub(crate) fn answer_to(input: &[u8], script: &mut [u8]) -> WriteAnswer
 {
     let commands = natural(input, COMMANDS_COUNT);
     let masks = natural(input, MASKS_COUNT);
-    if MOST_COMMANDS < commands {
-        return WriteAnswer::ScriptRoom;
-    }
-    if MOST_MASKS < masks {
-        return WriteAnswer::ScriptRoom;
+    if MOST_COMMANDS < commands || MOST_MASKS < masks {
+        return Err(WriteRefusal::ScriptRoom);
     }
     write_asked(input, commands, masks, script)
 }

@@ -11,11 +11,12 @@
 
 mod asked;
 
-ghost use Rattle.std.specs.Prelude.{◌≤◌, length, IfOk};
+ghost use Rattle.std.specs.Prelude.{◌≤◌, length};
 ghost use Rattle.assemble.specs.Asked.{program_bytes, AtStart};
 
+use input::read_full;
 use std::io;
-use std::io::{Read, Write};
+use std::io::Write;
 use words::{layout, store};
 
 // The bytes of number and place, and with those of the longest script.
@@ -32,24 +33,9 @@ fn assembled(input: &[u8], out: &mut [u8]) -> usize
     ensures { AtStart (program_bytes input.now) out.old result out.new }
 {
     let answer = asked::answer_to(input, &mut out[ANSWER_BYTES..OUTPUT_BYTES]);
-    store(out, 0, answer.code());
-    store(out, 1, (answer.place() % WORD) as u32);
-    ANSWER_BYTES + answer.written()
-}
-
-// Reads until the bytes are full or the input ends; how many bytes that is.
-fn read_full<R: Read>(input: &mut R, bytes: &mut [u8]) -> io::Result<usize>
-    ensures { IfOk result (λ n. n ≤ length bytes.new) }
-{
-    let mut done = 0;
-    for _ in 0..u64::MAX {
-        let n = input.read(&mut bytes[done..])?;
-        if n == 0 {
-            break;
-        }
-        done += n;
-    }
-    Ok(done)
+    store(out, 0, writer::code(answer));
+    store(out, 1, (writer::place(answer) % WORD) as u32);
+    ANSWER_BYTES + writer::written(answer)
 }
 
 fn main(rt: HostRuntime) -> io::Result<()> {

@@ -13,8 +13,8 @@ use Rattle.stems.specs.declared.edge.Shape.{Shape}
 use Rattle.stems.specs.declared.edge.Shape.TheVariants.{BottomGhost, TopGhost, Pair}
 use Rattle.stems.specs.Edge.{is_valid, shape_of, edge_of, used_by, setup_of}
 use Rattle.zones.specs.declared.state.HintState.{HintState}
-use Rattle.zones.specs.declared.capture.Held.{Held}
-use Rattle.zones.specs.declared.capture.Held.TheVariants.{By, Free}
+use Rattle.std.specs.Prelude.{Option, Some, None}
+use Rattle.zones.specs.declared.blues.BlueZone.{BlueZone}
 use Rattle.zones.specs.declared.capture.Captured.{Captured}
 use Rattle.zones.specs.Capture.{first_holding, lifted, captured_by, capture_of}
 use Rattle.zones.proofs.Holding.{capture-keeps}
@@ -66,9 +66,9 @@ module _ (st : HintState) (x : StemHint) (i : ℕ) where
       go ((own Bottom).locked || (own Top).locked) refl
       (held (first_holding st.blue_fuzz (own Bottom) (own Top) (take st.zone_count st.zones)))
     where
-      held : (h : Held) → LocksIf (captured_by h st (own Bottom) (own Top))
-      held Free p = absurd (true≢false (sym p))
-      held (By z) p = lifted-locks (shape_of x) _ _ _ (made-valid _ (made-setup x i st.scale))
+      held : (h : Option BlueZone) → LocksIf (captured_by h st (own Bottom) (own Top))
+      held None p = absurd (true≢false (sym p))
+      held (Some z) p = lifted-locks (shape_of x) _ _ _ (made-valid _ (made-setup x i st.scale))
 
       go : (l : Bool) → ((own Bottom).locked || (own Top).locked) ≡ l → LocksIf (capture_of st (own Bottom) (own Top)) →
           LocksIf (prepared_by l st (own Bottom) (own Top))

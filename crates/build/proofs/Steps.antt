@@ -15,8 +15,8 @@ use Rattle.stems.specs.declared.edge.Hint.{Hint}
 use Rattle.stems.specs.Mask.{is_active, cleared}
 use Rattle.stems.specs.Edge.{shape_of, setup_of}
 use Rattle.zones.specs.declared.state.HintState.{HintState}
-use Rattle.zones.specs.declared.capture.Held.{Held}
-use Rattle.zones.specs.declared.capture.Held.TheVariants.{By, Free}
+use Rattle.std.specs.Prelude.{Option, Some, None}
+use Rattle.zones.specs.declared.blues.BlueZone.{BlueZone}
 use Rattle.zones.specs.declared.capture.Captured.{Captured}
 use Rattle.zones.specs.Capture.{first_holding, lifted, captured_by, capture_of}
 use Rattle.zones.proofs.Holding.{capture-keeps}
@@ -51,9 +51,9 @@ module _ (st : HintState) (x : StemHint) (i : ℕ) where
       go ((own Bottom).locked || (own Top).locked)
       (held (first_holding st.blue_fuzz (own Bottom) (own Top) (take st.zone_count st.zones)))
     where
-      held : (h : Held) → Likes (captured_by h st (own Bottom) (own Top))
-      held Free = (like-refl _, like-refl _)
-      held (By z) = (like-lifted _ _, like-lifted _ _)
+      held : (h : Option BlueZone) → Likes (captured_by h st (own Bottom) (own Top))
+      held None = (like-refl _, like-refl _)
+      held (Some z) = (like-lifted _ _, like-lifted _ _)
 
       go : (t : Bool) → Likes (capture_of st (own Bottom) (own Top)) → Likes (prepared_by t st (own Bottom) (own Top))
       go true l = (like-refl _, like-refl _)

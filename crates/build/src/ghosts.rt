@@ -32,6 +32,7 @@ fn ghost_at(kind: Kind, height: Fixed, device: Fixed, scale: Fixed) -> Hint
 }
 
 // From `build`: the em box's bottom, one bit under −120.0, half a pixel under its rounded height.
+#[tactic(auto, unfolding(crate::specs::Ghosts::em_bottom))]
 fn em_bottom(scale: Fixed) -> Hint
     ensures { result ≡ em_bottom scale }
 {
@@ -40,6 +41,7 @@ fn em_bottom(scale: Fixed) -> Hint
 }
 
 // From `build`: the em box's top, one bit over 880.0, half a pixel over its rounded height.
+#[tactic(auto, unfolding(crate::specs::Ghosts::em_top))]
 fn em_top(scale: Fixed) -> Hint
     ensures { result ≡ em_top scale }
 {
@@ -62,9 +64,10 @@ pub(crate) fn put_em_box(
         let bottom = Edges::One(em_bottom(scale));
         let top = Edges::One(em_top(scale));
         let one = insert_edges(lines, tags, 0, bottom);
-        return insert_edges(lines, tags, one, top);
+        insert_edges(lines, tags, one, top)
+    } else {
+        0
     }
-    0
 }
 
 // From `build`: no edge, or all above the baseline, or all below.
@@ -72,13 +75,7 @@ fn is_uncovered(lines: &[i32; LINES], len: usize) -> bool
     requires { len ≤ max_hints }
     ensures { Uncovered lines.now len result }
 {
-    if len == 0 {
-        return true;
-    }
-    if Fixed::ZERO.less(height_at(lines, 0)) {
-        return true;
-    }
-    height_at(lines, len - 1).less(Fixed::ZERO)
+    len == 0 || Fixed::ZERO < height_at(lines, 0) || height_at(lines, len - 1) < Fixed::ZERO
 }
 
 // From `build`: a glyph whose hints leave the baseline out has it locked in the initial map all the
@@ -95,7 +92,8 @@ pub(crate) fn put_baseline(
 {
     if is_uncovered(lines, len) {
         let baseline = ghost_at(Kind::GhostBottom, Fixed::ZERO, Fixed::ZERO, scale);
-        return insert_edges(lines, tags, len, Edges::One(baseline));
+        insert_edges(lines, tags, len, Edges::One(baseline))
+    } else {
+        len
     }
-    len
 }

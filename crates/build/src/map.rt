@@ -82,9 +82,8 @@ pub fn build_map(state: HintState, mask: HintMask, stems: Stems, initial: HintMa
         initial.scale,
         &mut notes,
     );
-    let map = HintMap::from_lists(&lines, &tags, len, state.scale).validate();
     Built {
-        map,
+        map: HintMap::from_lists(&lines, &tags, len, state.scale).validate(),
         stems: Stems::from_list(&numbers, stems.count),
     }
 }

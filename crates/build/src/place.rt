@@ -16,26 +16,21 @@ use stems::{
 use zones::{Captured, Gauge, ZONE_NUMBERS};
 
 // From `build`: a stem's edges, and whether they are locked or captured.
+#[tactic(auto, unfolding(crate::specs::Place::prepared_of))]
 fn prepared(gauge: Gauge, zones: &[i32; ZONE_NUMBERS], stem: StemHint, index: u8) -> Captured
     ensures { result ≡ prepared_of (state_in gauge zones.now) stem index }
 {
     let bottom = Hint::setup(stem, index, gauge.scale, Side::Bottom);
     let top = Hint::setup(stem, index, gauge.scale, Side::Top);
-    if bottom.is_locked() {
-        return Captured {
+    if bottom.is_locked() || top.is_locked() {
+        Captured {
             captured: true,
             bottom,
             top,
-        };
+        }
+    } else {
+        gauge.capture_by(zones, bottom, top)
     }
-    if top.is_locked() {
-        return Captured {
-            captured: true,
-            bottom,
-            top,
-        };
-    }
-    gauge.capture_by(zones, bottom, top)
 }
 
 // From `build`: the turn of an active stem in the first round. If it is locked or captured it is put
@@ -56,13 +51,15 @@ fn put_locked(
         lines.new tags.new rest.new }
 {
     let stem = stem_at(stems, i);
-    let edges = prepared(gauge, zones, stem, i as u8);
-    if !edges.captured {
+    let Captured {
+        captured,
+        bottom,
+        top,
+    } = prepared(gauge, zones, stem, i as u8);
+    if !captured {
         return len;
     }
     clear_active(rest, i);
-    let bottom = edges.bottom;
-    let top = edges.top;
     insert_edges(lines, tags, len, Edges::choose(stem.shape(), bottom, top))
 }
 
@@ -119,8 +116,8 @@ fn put_free(
     insert_edges(lines, tags, len, edges.placed(initial, size, base, scale))
 }
 
-// From `build`: the second round, over the stems that are left, as the first goes. Gives the new
-// length.
+// From `build`: the second round, over the stems that are left, as the first goes. It is a walk of its
+// own, as its turn takes what the first does not and leaves `rest`. Gives the new length.
 pub(crate) fn place_free(
     lines: &mut [i32; LINES],
     tags: &mut [u8; TAGS],

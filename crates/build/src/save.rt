@@ -10,15 +10,19 @@ use stems::{Hint, LINES, MAX_HINTS, STEM_NUMBERS, StemHint, TAGS, edge_at, put_s
 fn saved(stem: StemHint, edge: Hint) -> StemHint
     ensures { result ≡ saved_stem edge stem }
 {
-    let mut used = stem;
-    let height = edge.ds_coord;
-    used.is_used = true;
     if edge.is_top() {
-        used.ds_max = height;
-        return used;
+        StemHint {
+            is_used: true,
+            ds_max: edge.ds_coord,
+            ..stem
+        }
+    } else {
+        StemHint {
+            is_used: true,
+            ds_min: edge.ds_coord,
+            ..stem
+        }
     }
-    used.ds_min = height;
-    used
 }
 
 // From `build`: the heights of all edges are saved, each in its stem. No edge that a stem has is out

@@ -4,20 +4,18 @@ use mathlib.Core.Bool.{Bool, true, false, cond, ◌||◌, true≢false}
 use mathlib.Core.List.{List, [], ◌∷◌, ◌++◌}
 use Prim.Native.Nat.{ℕ, zero, suc, ◌+◌, ◌-◌, ◌≤◌, ◌<◌}
 use native.Mathlib.Omega.{arith}
-use lib.IntN.{ℤ}
 use lib.ListN.{length}
 use lib.Dec.{ltb, leb}
 use borrow.Author.Tests.{lt-ltb, le-ltb, ltb-true, ltb-false}
-use Rattle.words.specs.declared.answer.Answer.{Answer}
-use Rattle.words.specs.declared.answer.Answer.TheVariants.{Ok}
+use Rattle.std.specs.Prelude.{Ok}
 use Rattle.words.specs.Rows.{Row}
-use Rattle.words.specs.Answers.{first_of, number_of}
+use Rattle.words.specs.Answers.{Answer, first_of, number_of}
 use Rattle.words.proofs.Rows.{Refusing, none-holds, found, onward}
 use Rattle.words.proofs.Answers.{refusal, is_ok, both_ok}
 use Rattle.commands.specs.declared.reading.Command.{Command}
 use Rattle.commands.specs.declared.reading.Command.TheVariants.{Mark}
 use Rattle.commands.specs.declared.reading.Marking.TheVariants.{Bad}
-use Rattle.commands.specs.Commands.{next_at, command_of, read_at, count_by, CommandAt, commands_from, commands_of}
+use Rattle.commands.specs.Commands.{next_at, command_of, read_at, CommandAt, commands_from, commands_of}
 use Rattle.commands.specs.Faults.{mask_past, is_bad, has_bad_mask, fault_rows, command_rows}
 
 -- a mask that is not past its bytes ends among them
@@ -30,11 +28,6 @@ mask-inside start len bytes e =
     last true v w e = cc
     last false true w e = cc
     last false false w e = e
-
--- there are no more words than bytes and given words
-pub count_most : (b : Bool) (part : List ℕ) (words : List ℤ) → count_by b part words ≤ length part + length words
-count_most true part words = omega arith
-count_most false part words = omega arith
 
 -- the word behind a command
 pub next-is : (w : ℕ → ℕ) (n i : ℕ) → (read_at w n i).next ≡ next_at w i
@@ -103,7 +96,7 @@ module _ (b : ℕ) (w : ℕ → ℕ) (n : ℕ) where
   rows_none bytes i h = ap (command_rows bytes) (none (n - i) i h)
 
 -- every test refuses
-faults-refusing : (bytes place : ℕ) (c : Command) → Refusing Ok (fault_rows bytes place c)
+faults-refusing : (bytes place : ℕ) (c : Command) → Refusing (Ok tt) (fault_rows bytes place c)
 faults-refusing bytes place c zero h = refusal (omega arith)
 faults-refusing bytes place c (suc zero) h = refusal (omega arith)
 faults-refusing bytes place c (suc (suc j)) h = absurd (no h)
@@ -111,7 +104,7 @@ faults-refusing bytes place c (suc (suc j)) h = absurd (no h)
     no : suc (suc j) < 2 → ⊥
     no h = omega arith
 
-pub rows-refusing : (bytes : ℕ) (cs : List CommandAt) → Refusing Ok (command_rows bytes cs)
+pub rows-refusing : (bytes : ℕ) (cs : List CommandAt) → Refusing (Ok tt) (command_rows bytes cs)
 unfolding command_rows
 rows-refusing bytes [] j h = absurd (no h)
   where
@@ -123,25 +116,25 @@ rows-refusing bytes (c ∷ cs) (suc (suc j)) h = rows-refusing bytes cs j (omega
 
 -- where the answer is Ok, a command is neither bad nor has a bad mask, and the tests behind it
 -- answer Ok
-passes : (bytes place : ℕ) (c : Command) (rs : List (Row Answer)) → first_of (fault_rows bytes place c ++ rs) ≡ Ok →
-    (is_bad c ≡ false) × ((has_bad_mask bytes c ≡ false) × (first_of rs ≡ Ok))
+passes : (bytes place : ℕ) (c : Command) (rs : List (Row Answer)) → first_of (fault_rows bytes place c ++ rs) ≡ Ok tt →
+    (is_bad c ≡ false) × ((has_bad_mask bytes c ≡ false) × (first_of rs ≡ Ok tt))
 passes bytes place c rs e =
     let b = both_ok (fault_rows bytes place c) rs (faults-refusing bytes place c) e in
-    let f = none-holds Ok (fault_rows bytes place c) (faults-refusing bytes place c) b.0 in
+    let f = none-holds (Ok tt) (fault_rows bytes place c) (faults-refusing bytes place c) b.0 in
     (f 0, (f 1, b.1))
 
 -- at a command that is there
 module _ (b : ℕ) (w : ℕ → ℕ) (n bytes i : ℕ) (h : i < n) where
-  pub faultless : first_of (command_rows bytes (commands_from (n - i) b w n i)) ≡ Ok →
+  pub faultless : first_of (command_rows bytes (commands_from (n - i) b w n i)) ≡ Ok tt →
       (is_bad (read_at w n i).command ≡ false) ×
       ((has_bad_mask bytes (read_at w n i).command ≡ false) ×
-      (first_of (command_rows bytes (commands_from (n - next_at w i) b w n (next_at w i))) ≡ Ok))
+      (first_of (command_rows bytes (commands_from (n - next_at w i) b w n (next_at w i))) ≡ Ok tt))
   faultless e = passes bytes (b + i) (read_at w n i).command _ (sym (ap first_of (rows-first b w n bytes i h)) ∙ e)
 
   -- its fault is the answer
   pub fault-here : (f : Answer) → f ≡ first_of (fault_rows bytes (b + i) (read_at w n i).command) → 0 < number_of f →
       f ≡ first_of (command_rows bytes (commands_from (n - i) b w n i))
-  fault-here f g k = g ∙ sym (ap first_of (rows-first b w n bytes i h) ∙ found Ok _ _ (refusal (rw g at k)))
+  fault-here f g k = g ∙ sym (ap first_of (rows-first b w n bytes i h) ∙ found (Ok tt) _ _ (refusal (rw g at k)))
 
   -- and where it has none the commands behind it give it
   pub fault-behind : (f : Answer) → f ≡ first_of (fault_rows bytes (b + i) (read_at w n i).command) → number_of f ≡ 0 →
@@ -149,7 +142,7 @@ module _ (b : ℕ) (w : ℕ → ℕ) (n bytes i : ℕ) (h : i < n) where
       first_of (command_rows bytes (commands_from (n - next_at w i) b w n (next_at w i)))
   fault-behind f g k =
       ap first_of (rows-first b w n bytes i h) ∙
-      onward Ok _ _ (faults-refusing bytes (b + i) (read_at w n i).command) (sym g ∙ is_ok f k)
+      onward (Ok tt) _ _ (faults-refusing bytes (b + i) (read_at w n i).command) (sym g ∙ is_ok f k)
 
 -- a command that is not bad has all its operands, and is not made bad
 pub read-fine : (w : ℕ → ℕ) (n i : ℕ) → is_bad (read_at w n i).command ≡ false →
@@ -167,7 +160,7 @@ read-fine w n i e = by (ltb n (next_at w i)) refl e
 module _ (b : ℕ) (w : ℕ → ℕ) (n bytes : ℕ) (P : ℕ → Type 0) (last : (i : ℕ) → n ≤ i → P i)
     (one : (i : ℕ) → i < n → is_bad (read_at w n i).command ≡ false → P (next_at w i) → P i) where
   abbrev Faultless : ℕ → Type 0
-  Faultless i = first_of (command_rows bytes (commands_from (n - i) b w n i)) ≡ Ok
+  Faultless i = first_of (command_rows bytes (commands_from (n - i) b w n i)) ≡ Ok tt
 
   -- by at most f of them
   pub along : (f i : ℕ) → n - i ≤ f → Faultless i → P i

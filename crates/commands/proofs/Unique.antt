@@ -6,7 +6,6 @@ use borrow.Fn.Kinds.{ended_of}
 use borrow.Fn.World.{ArgsD, ResD}
 use contract.Lifetimes.{Lfts}
 use denote.Triple.Clauses.{AtExit}
-use Rattle.words.specs.declared.answer.Answer.{Answer}
 use Rattle.words.proofs.Answers.{says_is}
 use Rattle.commands.specs.declared.reading.Command.{Command}
 use Rattle.commands.specs.contracts.reading.read_by as read_by_lem
@@ -23,9 +22,10 @@ use Rattle.commands.proofs.faults.fault_in.Reads as fault-in-reads
 use Rattle.commands.specs.contracts.faults.check_commands as check-commands
 use Rattle.commands.proofs.faults.check_commands.Kinds as check-commands-kinds
 use Rattle.commands.proofs.faults.check_commands.Reads as check-commands-reads
+use Rattle.words.specs.Answers.{Answer}
 
-module _ (κs : Lfts 2) (a : ArgsD read_by_lem.signature κs) (r r' : ResD read_by_lem.signature κs)
-    (x x' : AtExit (ended_of 2 read-by-kinds.ps read-by-kinds.r) κs) where
+module _ (κs : Lfts 1) (a : ArgsD read_by_lem.signature κs) (r r' : ResD read_by_lem.signature κs)
+    (x x' : AtExit (ended_of 1 read-by-kinds.ps read-by-kinds.r) κs) where
   pub read-by-unique : read-by-reads.Post κs a r x → read-by-reads.Post κs a r' x' → r ≡ r'
   read-by-unique p q = p ∙ sym q
 

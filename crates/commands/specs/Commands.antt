@@ -1,12 +1,14 @@
 -- The commands of a script (01, "The script"), read from words, whatever gives them; a script's are
 -- raw_at of its bytes.
-use Rattle.std.specs.Prelude.{Bool, true, false, cond, List, [], ◌∷◌, ℕ, zero, suc, ◌+◌, ◌/◌, eqb, ltb, ℤ, length}
+use Rattle.std.specs.Prelude.{cond, List, [], ◌∷◌, ℕ, zero, suc, ◌+◌, ◌/◌, eqb, ltb, length}
 use Rattle.pen.specs.declared.strokes.Point.{Point}
 use Rattle.pen.specs.declared.strokes.Path.TheVariants.{Move, Line, Curve, Finish}
 use Rattle.words.specs.Words.{raw_at, given_word, number_at}
 use Rattle.commands.specs.declared.reading.Marking.TheVariants.{Bad, Stem, Mask, Counter, Clear, Close}
 use Rattle.commands.specs.declared.reading.Command.{Command}
 use Rattle.commands.specs.declared.reading.Command.TheVariants.{Mark, Draw}
+use Rattle.commands.specs.declared.reading.Words.{Words}
+use Rattle.commands.specs.declared.reading.Words.TheVariants.{Script, Given}
 use Rattle.commands.specs.declared.reading.Read.{Read}
 
 -- how many operand words a kind has
@@ -40,15 +42,15 @@ next_at w i = i + 1 + operands_of (w i)
 unfoldable pub read_at : (ℕ → ℕ) → ℕ → ℕ → Read
 read_at w n i = record { command = cond (ltb n (next_at w i)) (Mark Bad) (command_of w i (w i)); next = next_at w i }
 
--- words that are given as a list, if a mark says so, or a script's
-abbrev pub word_by : Bool → List ℕ → List ℤ → ℕ → ℕ
-word_by true part words = given_word words
-word_by false part words = raw_at part
+-- the words of a script's part, or those that are given
+abbrev pub word_by : Words → ℕ → ℕ
+word_by (Script part) = raw_at part.now
+word_by (Given words) = given_word words.now
 
 -- how many of them there are
-abbrev pub count_by : Bool → List ℕ → List ℤ → ℕ
-count_by true part words = length words
-count_by false part words = length part / 4
+abbrev pub count_by : Words → ℕ
+count_by (Script part) = length part.now / 4
+count_by (Given words) = length words.now
 
 -- a command, and the word of the script at which its kind stands
 pub record CommandAt : Type 0 where

@@ -6,7 +6,7 @@ ghost use Rattle.commands.specs.Commands.{commands_of};
 ghost use Rattle.commands.specs.Faults.{mask_past, mask_answer, fault_rows, command_rows};
 
 use crate::reading::{Command, Marking, read_command};
-use words::Answer;
+use words::{Answer, Refusal};
 
 // Whether a mask's end is past the mask bytes: what is negative is, as a natural, past them.
 fn mask_past(start: u32, len: u32, bytes: usize) -> bool
@@ -21,26 +21,25 @@ fn mask_fault(start: u32, len: u32, bytes: usize, place: usize) -> Answer
     ensures { result ≡ mask_answer start len bytes place }
 {
     if mask_past(start, len, bytes) {
-        return Answer::BadMask(place);
+        return Err(Refusal::BadMask(place));
     }
-    Answer::Ok
+    Ok(())
 }
 
 // What is wrong with a command at a place, where there are so many mask bytes.
+#[tactic(auto, unfolding(words::specs::Rows::first_or))]
 pub fn fault_in(command: Command, bytes: usize, place: usize) -> Answer
     requires { bytes < 2147483648 }
     ensures { result ≡ first_of (fault_rows bytes place command) }
 {
     let Command::Mark(marking) = command else {
-        return Answer::Ok;
+        return Ok(());
     };
     match marking {
-        Marking::Bad => Answer::BadCommand(place),
-        Marking::Stem(_, _) => Answer::Ok,
+        Marking::Bad => Err(Refusal::BadCommand(place)),
         Marking::Mask { start, len } => mask_fault(start, len, bytes, place),
         Marking::Counter { start, len } => mask_fault(start, len, bytes, place),
-        Marking::Clear => Answer::Ok,
-        Marking::Close => Answer::Ok,
+        Marking::Stem(_, _) | Marking::Clear | Marking::Close => Ok(()),
     }
 }
 
@@ -50,16 +49,14 @@ fn check_part(part: &[u8], first: usize, n: usize, bytes: usize) -> Answer
     ensures { result ≡ first_of (command_rows bytes (commands_of first (raw_at part.now) n)) }
 {
     let mut at = 0;
+    // A command says how many words it has, so the index goes by what is read.
     while at < n {
         let read = read_command(part, n, at);
         let command = read.command;
-        let fault = fault_in(command, bytes, first + at);
-        if fault.code() != 0 {
-            return fault;
-        }
+        fault_in(command, bytes, first + at)?;
         at = read.next;
     }
-    Answer::Ok
+    Ok(())
 }
 
 // The same over a whole script, whose `n` command words start at word `first`.

@@ -6,4 +6,4 @@ mod faults;
 mod reading;
 
 pub use faults::{check_commands, fault_in};
-pub use reading::{Command, Marking, Read, operands, read_by, read_command, read_given};
+pub use reading::{Command, Marking, Read, Words, operands, read_by, read_command, read_given};

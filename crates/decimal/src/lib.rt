@@ -4,18 +4,18 @@
 ghost use Rattle.std.specs.Prelude.{◌+◌, ◌<◌, ◌≤◌, [], ◌∷◌, length};
 ghost use Rattle.decimal.specs.Decimal.{Put, PutInRoom, number_text, fraction_by, size_text, decimal_text};
 
-use fixed::{Fixed, bits_of};
+use fixed::Fixed;
 
 // The most digits of a fraction in 65536ths.
 const FRACTION_DIGITS: usize = 16;
 
 // Puts some text at a place of some bytes; answers where it ends.
-pub fn put_text(out: &mut [u8], at: usize, text: &[u8]) -> usize
+pub fn put_text(out: &mut [u8], at: usize, text: &str) -> usize
     requires { at + length text.now ≤ length out.old }
     ensures { Put text.now at out.old result out.new }
 {
     let end = at + text.len();
-    words::copy_bytes(text, &mut out[at..end]);
+    out[at..end].copy_from_slice(text.as_bytes());
     end
 }
 
@@ -24,7 +24,8 @@ fn put_byte(out: &mut [u8], at: usize, byte: u8) -> usize
     ensures { PutInRoom (byte ∷ []) at out.old result out.new }
 {
     if at < out.len() {
-        return put_text(out, at, &[byte]);
+        out[at] = byte;
+        return at + 1;
     }
     at
 }
@@ -33,7 +34,7 @@ fn put_byte(out: &mut [u8], at: usize, byte: u8) -> usize
 fn put_digits(out: &mut [u8], at: usize, n: u32) -> usize
     ensures { PutInRoom (number_text n) at out.old result out.new }
 {
-    let digit = 48 + (n % 10) as u8;
+    let digit = b'0' + (n % 10) as u8;
     if n < 10 {
         return put_byte(out, at, digit);
     }
@@ -54,14 +55,11 @@ fn put_fraction(out: &mut [u8], at: usize, n: u32, left: usize) -> usize
     requires { n < 65536 }
     ensures { PutInRoom (fraction_by left n) at out.old result out.new }
 {
-    if left == 0 {
-        return at;
-    }
-    if n == 0 {
+    if left == 0 || n == 0 {
         return at;
     }
     let tens = n * 10;
-    let next = put_byte(out, at, 48 + (tens / 65536) as u8);
+    let next = put_byte(out, at, b'0' + (tens / 65536) as u8);
     put_fraction(out, next, tens % 65536, left - 1)
 }
 
@@ -74,7 +72,7 @@ fn put_size(out: &mut [u8], at: usize, n: u32) -> usize
     if rest == 0 {
         return point;
     }
-    let next = put_byte(out, point, 46);
+    let next = put_byte(out, point, b'.');
     put_fraction(out, next, rest, FRACTION_DIGITS)
 }
 
@@ -83,10 +81,10 @@ pub fn put_decimal(out: &mut [u8], at: usize, x: Fixed) -> usize
     requires { at + length (decimal_text x.bits) ≤ length out.old }
     ensures { Put (decimal_text x.bits) at out.old result out.new }
 {
-    let bits = bits_of(x.bits);
+    let size = x.bits.unsigned_abs();
     if x.bits < 0 {
-        let next = put_byte(out, at, 45);
-        return put_size(out, next, std::num::wrapping_sub_u32(0, bits));
+        let next = put_byte(out, at, b'-');
+        return put_size(out, next, size);
     }
-    put_size(out, at, bits)
+    put_size(out, at, size)
 }

@@ -3,15 +3,16 @@ use mathlib.Core.Path.{◌≡◌, refl, sym, ap, subst, ◌∙◌}
 use mathlib.Core.Bool.{Bool, true, false, cond}
 use mathlib.Core.List.{List}
 use native.Mathlib.Omega.{arith}
+use Prim.Native.Nat.{ℕ}
 use lib.IntN.{ℤ}
+use Rattle.std.proofs.Common.{Result, Ok, Err}
 use Rattle.zones.specs.declared.state.HintState.{HintState}
 use Rattle.pen.specs.declared.strokes.Pen.{Pen}
 use Rattle.pen.specs.Strokes.{Stroke}
 use Rattle.pen.specs.Records.{fits}
 use Rattle.hints.specs.declared.hints.Hints.{Hints}
 use Rattle.pen.specs.declared.strokes.Path.{Path}
-use Rattle.pen.specs.declared.drawn.CallAnswer.{CallAnswer}
-use Rattle.pen.specs.declared.drawn.CallAnswer.TheVariants.{Wrote, NoRoom}
+use Rattle.pen.specs.declared.drawn.NoRoom.{NoRoom}
 use Rattle.pen.specs.declared.drawn.Drawn.{Drawn}
 use Rattle.hints.specs.Hints.{ready_of}
 use Rattle.pen.specs.Drawn.{call_number, call_words, Drew}
@@ -27,16 +28,16 @@ drawing_of h pen = record { hints = h; pen = pen }
 
 -- hints and pen settled by an answer: the answer stays, and its number tells which drawing is kept
 module _ (d : Drawing) (h : Hints) (pen : Pen) where
-  settled-answer : (a : CallAnswer) → (settled_by a d h pen).answer ≡ a
-  settled-answer (Wrote n) = refl
-  settled-answer NoRoom = refl
+  settled-answer : (a : Result ℕ NoRoom) → (settled_by a d h pen).answer ≡ a
+  settled-answer (Ok n) = refl
+  settled-answer (Err e) = refl
 
-  settled-drawing : (a : CallAnswer) (b : Bool) → call_number a ≡ cond b 0 6 →
+  settled-drawing : (a : Result ℕ NoRoom) (b : Bool) → call_number a ≡ cond b 0 6 →
       (settled_by a d h pen).drawing ≡ cond b (drawing_of h pen) d
-  settled-drawing (Wrote n) true e = refl
-  settled-drawing (Wrote n) false e = absurd (omega arith)
-  settled-drawing NoRoom true e = absurd (omega arith)
-  settled-drawing NoRoom false e = refl
+  settled-drawing (Ok n) true e = refl
+  settled-drawing (Ok n) false e = absurd (omega arith)
+  settled-drawing (Err _) true e = absurd (omega arith)
+  settled-drawing (Err _) false e = refl
 
 module _ (st : HintState) (d : Drawing) where
   module _ (c : Call) {h : Hints} {t : Stroke} {out left : List ℤ} {w : Drawn} (e : h ≡ hints_of st d.hints c)

@@ -4,21 +4,23 @@
 use mathlib.Core.Path.{◌≡◌, refl, sym, ap, ◌∙◌}
 use mathlib.Core.List.{List}
 use native.Mathlib.Omega.{arith}
+use Prim.Native.Nat.{ℕ}
 use lib.IntN.{ℤ}
 use borrow.Fn.Kinds.{ended_of}
 use borrow.Fn.World.{ArgsD, ResD}
 use contract.Lifetimes.{Lfts}
 use denote.Triple.Clauses.{AtExit}
+use Rattle.std.proofs.Common.{Result, Ok, Err}
 use Rattle.fixed.specs.declared.Fixed.{Fixed}
 use Rattle.stems.specs.declared.mask.HintMask.{HintMask}
 use Rattle.zones.specs.declared.state.HintParams.{HintParams}
 use Rattle.zones.specs.declared.state.HintState.{HintState}
 use Rattle.hints.specs.declared.drawing.Drawing.{Drawing}
 use Rattle.drawing.specs.declared.calls.After.{After}
-use Rattle.pen.specs.declared.drawn.CallAnswer.{CallAnswer}
+use Rattle.pen.specs.declared.drawn.NoRoom.{NoRoom}
 use Rattle.pen.proofs.Drew.{same_answer}
-use Rattle.drawing.specs.declared.opening.Opening.{Opening}
-use Rattle.drawing.specs.declared.opening.Opening.TheVariants.{Ok, BadScale, BadBlues}
+use Rattle.drawing.specs.declared.opening.OpenRefusal.{OpenRefusal}
+use Rattle.drawing.specs.declared.opening.OpenRefusal.TheVariants.{BadScale, BadBlues}
 use Rattle.drawing.specs.declared.opening.Opened.{Opened}
 use Rattle.drawing.specs.Open.{open_number}
 use Rattle.hints.specs.Calls.{Call}
@@ -67,7 +69,7 @@ module _ (κs : Lfts 0) (st : HintState) (d r r' : Drawing) where
 after : {a b : After} → a.drawing ≡ b.drawing → a.answer ≡ b.answer → a ≡ b
 after {a} {b} d e =
     ap (λ (x : Drawing). record { drawing = x; answer = a.answer }) d ∙
-    ap (λ (x : CallAnswer). record { drawing = b.drawing; answer = x }) e
+    ap (λ (x : Result ℕ NoRoom). record { drawing = b.drawing; answer = x }) e
 
 -- a call has one outcome
 called-once : {st : HintState} {d : Drawing} {c : Call} {out m m' : List ℤ} {r r' : After} → Called st d c out r m →
@@ -101,23 +103,23 @@ module _ (κs : Lfts 1) (a : ArgsD finish.signature κs) (r r' : ResD finish.sig
   finish-unique p q = called-once p q
 
 -- the number of an opening tells which it is
-same-opening : (a b : Opening) → open_number a ≡ open_number b → a ≡ b
-same-opening Ok Ok e = refl
-same-opening Ok BadScale e = absurd (omega arith)
-same-opening Ok BadBlues e = absurd (omega arith)
-same-opening BadScale Ok e = absurd (omega arith)
-same-opening BadScale BadScale e = refl
-same-opening BadScale BadBlues e = absurd (omega arith)
-same-opening BadBlues Ok e = absurd (omega arith)
-same-opening BadBlues BadScale e = absurd (omega arith)
-same-opening BadBlues BadBlues e = refl
+same-opening : (a b : Result (Unit {0}) OpenRefusal) → open_number a ≡ open_number b → a ≡ b
+same-opening (Ok _) (Ok _) e = refl
+same-opening (Ok _) (Err BadScale) e = absurd (omega arith)
+same-opening (Ok _) (Err BadBlues) e = absurd (omega arith)
+same-opening (Err BadScale) (Ok _) e = absurd (omega arith)
+same-opening (Err BadScale) (Err BadScale) e = refl
+same-opening (Err BadScale) (Err BadBlues) e = absurd (omega arith)
+same-opening (Err BadBlues) (Ok _) e = absurd (omega arith)
+same-opening (Err BadBlues) (Err BadScale) e = absurd (omega arith)
+same-opening (Err BadBlues) (Err BadBlues) e = refl
 
 pub open-unique : (κs : Lfts 0) (params : HintParams) (scale : Fixed) (r r' : Opened) →
     open-reads.Post κs (params, (scale, tt)) r (params, (scale, tt)) →
     open-reads.Post κs (params, (scale, tt)) r' (params, (scale, tt)) → r ≡ r'
 open-unique κs params scale r r' p q =
     let a = same-opening r.answer r'.answer (p.number ∙ sym q.number) in
-    ap (λ (x : Opening). record { answer = x; state = r.state; drawing = r.drawing }) a ∙
+    ap (λ (x : Result (Unit {0}) OpenRefusal). record { answer = x; state = r.state; drawing = r.drawing }) a ∙
     ap (λ (x : HintState). record { answer = r'.answer; state = x; drawing = r.drawing }) (p.state ∙ sym q.state)
     ∙
     ap (λ (x : Drawing). record { answer = r'.answer; state = r'.state; drawing = x }) (p.drawing ∙ sym q.drawing)

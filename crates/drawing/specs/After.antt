@@ -1,12 +1,11 @@
 -- The outcome of a call on a drawing (01, "Path records"), which room commits or not.
-use Rattle.std.specs.Prelude.{◌≡◌, cond, List, ℤ, length}
+use Rattle.std.specs.Prelude.{◌≡◌, cond, List, ℕ, ℤ, length, Result, Ok, Err}
 use Rattle.zones.specs.declared.state.HintState.{HintState}
 use Rattle.pen.specs.declared.strokes.Pen.{Pen}
 use Rattle.pen.specs.Records.{written, fits}
 use Rattle.hints.specs.declared.hints.Hints.{Hints}
 use Rattle.hints.specs.declared.drawing.Drawing.{Drawing}
-use Rattle.pen.specs.declared.drawn.CallAnswer.{CallAnswer}
-use Rattle.pen.specs.declared.drawn.CallAnswer.TheVariants.{Wrote, NoRoom}
+use Rattle.pen.specs.declared.drawn.NoRoom.{NoRoom}
 use Rattle.pen.specs.Drawn.{call_number, call_words, call_place}
 use Rattle.hints.specs.Calls.{Call, words_for, room_by}
 use Rattle.drawing.specs.declared.calls.After.{After}
@@ -21,6 +20,6 @@ pub record Called (st : HintState) (d : Drawing) (c : Call) (out : List ℤ) (sa
   pub memory : left ≡ cond (fits (words_for st d c) out) (written (words_for st d c) out) out
 
 -- hints and pen are kept if there was room, and else the drawing is as it came
-abbrev pub settled_by : CallAnswer → Drawing → Hints → Pen → After
-settled_by (Wrote n) d h pen = record { drawing = record { hints = h; pen = pen }; answer = Wrote n }
-settled_by NoRoom d h pen = record { drawing = d; answer = NoRoom }
+abbrev pub settled_by : Result ℕ NoRoom → Drawing → Hints → Pen → After
+settled_by (Ok n) d h pen = record { drawing = record { hints = h; pen = pen }; answer = Ok n }
+settled_by (Err e) d h pen = record { drawing = d; answer = Err e }

@@ -8,46 +8,42 @@ ghost use Rattle.drawing.specs.After.{Called, settled_by};
 use fixed::Fixed;
 use hintmap::HintMap;
 use hints::{Drawing, Hints, draw};
-use pen::{CallAnswer, Drawn, Path, Pen, Point};
+use pen::{Drawn, NoRoom, Path, Point};
 use stems::HintMask;
 use zones::HintState;
 
 #[derive(Clone, Copy)]
 pub struct After {
     pub drawing: Drawing,
-    pub answer: CallAnswer,
+    pub answer: Result<usize, NoRoom>,
 }
 
 // The drawing with other hints.
 fn with_hints(drawing: Drawing, hints: Hints) -> Drawing
     ensures { result ≡ record { hints = hints; pen = drawing.pen } }
 {
-    let pen = drawing.pen;
-    Drawing { hints, pen }
+    Drawing { hints, ..drawing }
 }
 
 // Ports `hstem`.
 pub fn hstem(state: HintState, drawing: Drawing, min: Fixed, max: Fixed) -> Drawing
     ensures { result ≡ next_of state drawing (stem min max) }
 {
-    let hints = drawing.hints;
-    with_hints(drawing, hints.with_stem(min, max))
+    with_hints(drawing, drawing.hints.with_stem(min, max))
 }
 
 // Ports `hint_mask`.
 pub fn hint_mask(state: HintState, drawing: Drawing, mask: HintMask) -> Drawing
     ensures { result ≡ next_of state drawing (hint_mask mask) }
 {
-    let hints = drawing.hints;
-    with_hints(drawing, hints.with_mask(mask))
+    with_hints(drawing, drawing.hints.with_mask(mask))
 }
 
 // Ports `counter_mask`.
 pub fn counter_mask(state: HintState, drawing: Drawing, mask: HintMask) -> Drawing
     ensures { result ≡ next_of state drawing (counter_mask mask) }
 {
-    let hints = drawing.hints;
-    with_hints(drawing, hints.counter(state, mask))
+    with_hints(drawing, drawing.hints.counter(state, mask))
 }
 
 // Ports `clear_hints`: the open path stays.
@@ -70,14 +66,14 @@ fn settle(drawing: Drawing, hints: Hints, drawn: Drawn) -> After
 {
     let answer = drawn.answer;
     match answer {
-        CallAnswer::Wrote(_) => {
-            let pen = drawn.pen;
-            After {
-                drawing: Drawing { hints, pen },
-                answer,
-            }
-        }
-        CallAnswer::NoRoom => After { drawing, answer },
+        Ok(_) => After {
+            drawing: Drawing {
+                hints,
+                pen: drawn.pen,
+            },
+            answer,
+        },
+        Err(_) => After { drawing, answer },
     }
 }
 
@@ -87,20 +83,15 @@ fn by_path(state: HintState, drawing: Drawing, path: Path, out: &mut [i32]) -> A
     requires { has_point path ≡ true }
     ensures { Called state drawing (draw path) out.old result out.new }
 {
-    let hints = drawing.hints;
-    let pen = drawing.pen;
-    if hints.map.is_valid {
-        let drawn = draw(hints.map, state.scale, pen, path, out);
-        let next = drawn.pen;
-        let answer = drawn.answer;
+    if drawing.hints.map.is_valid {
+        let Drawn { pen, answer } = draw(drawing.hints.map, state.scale, drawing.pen, path, out);
         return After {
-            drawing: Drawing { hints, pen: next },
+            drawing: Drawing { pen, ..drawing },
             answer,
         };
     }
-    let ready = hints.ready(state);
-    let map = ready.map;
-    let drawn = draw(map, state.scale, pen, path, out);
+    let ready = drawing.hints.ready(state);
+    let drawn = draw(ready.map, state.scale, drawing.pen, path, out);
     settle(drawing, ready, drawn)
 }
 
@@ -136,10 +127,7 @@ pub fn curve_to(
 pub fn finish(state: HintState, drawing: Drawing, out: &mut [i32]) -> After
     ensures { Called state drawing (draw Finish) out.old result out.new }
 {
-    let hints = drawing.hints;
-    let pen = drawing.pen;
-    let scale = state.scale;
-    let map = HintMap::new(scale);
-    let drawn = draw(map, scale, pen, Path::Finish, out);
-    settle(drawing, hints, drawn)
+    let map = HintMap::new(state.scale);
+    let drawn = draw(map, state.scale, drawing.pen, Path::Finish, out);
+    settle(drawing, drawing.hints, drawn)
 }

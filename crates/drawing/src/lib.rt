@@ -8,4 +8,4 @@ mod opening;
 pub use calls::{
     After, clear_hints, close, counter_mask, curve_to, finish, hint_mask, hstem, line_to, move_to,
 };
-pub use opening::{Opened, Opening, open};
+pub use opening::{OpenRefusal, Opened, open};

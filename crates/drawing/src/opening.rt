@@ -6,20 +6,32 @@ ghost use Rattle.drawing.specs.Open.{refused_state, refused_by, open_of, Opens};
 use fixed::Fixed;
 use hints::{Drawing, Hints};
 use pen::Pen;
+use std::error::Error;
+use std::fmt;
 use zones::{BlueZone, HintParams, HintState, MAX_BLUE_ZONES};
 
-// How opening ended.
-#[derive(Clone, Copy)]
-pub enum Opening {
-    Ok,
+// Why a drawing is not opened.
+#[derive(Clone, Copy, Debug, PartialEq, Eq)]
+pub enum OpenRefusal {
     BadScale,
     BadBlues,
 }
 
+impl fmt::Display for OpenRefusal {
+    fn fmt<W: fmt::Write>(&self, f: &mut fmt::Formatter<W>) -> fmt::Result {
+        f.write_str(match self {
+            OpenRefusal::BadScale => "the scale is below one bit",
+            OpenRefusal::BadBlues => "there are too many blues",
+        })
+    }
+}
+
+impl Error for OpenRefusal {}
+
 // The answer, the zones, and the drawing beside them.
 #[derive(Clone, Copy)]
 pub struct Opened {
-    pub answer: Opening,
+    pub answer: Result<(), OpenRefusal>,
     pub state: HintState,
     pub drawing: Drawing,
 }
@@ -28,9 +40,10 @@ pub struct Opened {
 fn new_drawing(scale: Fixed) -> Drawing
     ensures { result ≡ new_drawing scale }
 {
-    let hints = Hints::new(scale);
-    let pen = Pen::new();
-    Drawing { hints, pen }
+    Drawing {
+        hints: Hints::new(scale),
+        pen: Pen::new(),
+    }
 }
 
 // The zones beside a refused opening: scale 1.0 and all else 0.
@@ -57,28 +70,29 @@ fn refused_state() -> HintState
     }
 }
 
-fn refused(answer: Opening) -> Opened
-    ensures { result ≡ refused_by answer }
+fn refused(refusal: OpenRefusal) -> Opened
+    ensures { result ≡ refused_by refusal }
 {
     Opened {
-        answer,
+        answer: Err(refusal),
         state: refused_state(),
         drawing: new_drawing(Fixed::ONE),
     }
 }
 
 // Opens a drawing at a scale, or refuses the scale, then the counts.
+#[tactic(auto, unfolding(crate::specs::Open::open_of))]
 pub fn open(params: HintParams, scale: Fixed) -> Opened
     ensures { Opens (open_of params scale) result }
 {
     if scale.bits < 1 {
-        return refused(Opening::BadScale);
+        return refused(OpenRefusal::BadScale);
     }
     if !params.counts_fit() {
-        return refused(Opening::BadBlues);
+        return refused(OpenRefusal::BadBlues);
     }
     Opened {
-        answer: Opening::Ok,
+        answer: Ok(()),
         state: HintState::new(params, scale),
         drawing: new_drawing(scale),
     }

@@ -5,8 +5,7 @@ use Rattle.std.specs.Prelude.{length}
 use Rattle.stems.specs.declared.edge.Kind.{Kind}
 use Rattle.stems.specs.declared.edge.Kind.TheVariants.{Absent, GhostBottom, GhostTop, PairBottom, PairTop}
 use Rattle.hintmap.specs.declared.map.HintMap.{HintMap}
-use Rattle.words.specs.declared.answer.Answer.{Answer}
-use Rattle.words.specs.Answers.{number_of, place_of, first_of, refuses}
+use Rattle.words.specs.Answers.{Answer, number_of, place_of, first_of, refuses}
 use Rattle.script.specs.Script.{check_rows, map_at}
 use Rattle.listing.specs.declared.record.EdgeRecord.{EdgeRecord}
 use Rattle.listing.specs.declared.summary.Summary.{Summary}

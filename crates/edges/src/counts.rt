@@ -1,18 +1,18 @@
 // Lines that hold numbers behind their names.
-ghost use Rattle.std.specs.Prelude.{◌++◌, ◌+◌, ◌≤◌, ◌<◌, length};
+ghost use Rattle.std.specs.Prelude.{◌++◌, ◌+◌, ◌≤◌, ◌<◌, length, Err};
 ghost use Rattle.decimal.specs.Decimal.{Put, number_text};
 ghost use Rattle.edges.specs.Page.{summary_line, refusal_line};
 
 use crate::line::put_end;
 use decimal::{put_number, put_text};
 use listing::Summary;
-use words::Answer;
+use words::Refusal;
 
 // 2^32: a place is put by its low 32 bits.
 const WORD: usize = 4294967296;
 
 // Puts a number behind its name.
-fn put_count(out: &mut [u8], at: usize, name: &[u8], n: usize) -> usize
+fn put_count(out: &mut [u8], at: usize, name: &str, n: usize) -> usize
     requires { (n < 4294967296) × (at + length (name.now ++ number_text n) ≤ length out.old) }
     ensures { Put (name.now ++ number_text n) at out.old result out.new }
 {
@@ -26,19 +26,19 @@ pub(crate) fn put_summary(out: &mut [u8], at: usize, summary: Summary) -> usize
         (at + length (summary_line summary) ≤ length out.old) }
     ensures { Put (summary_line summary) at out.old result out.new }
 {
-    let edges = put_count(out, at, b"edges ", summary.edges);
-    let pairs = put_count(out, edges, b", pairs ", summary.pairs);
-    let ghosts = put_count(out, pairs, b", ghosts ", summary.ghosts);
-    let locked = put_count(out, ghosts, b", locked ", summary.locked);
+    let edges = put_count(out, at, "edges ", summary.edges);
+    let pairs = put_count(out, edges, ", pairs ", summary.pairs);
+    let ghosts = put_count(out, pairs, ", ghosts ", summary.ghosts);
+    let locked = put_count(out, ghosts, ", locked ", summary.locked);
     put_end(out, locked, false)
 }
 
 // Puts why a script is refused.
-pub(crate) fn put_refusal(out: &mut [u8], answer: Answer) -> usize
+pub(crate) fn put_refusal(out: &mut [u8], refusal: Refusal) -> usize
     requires { 100 ≤ length out.old }
-    ensures { Put (refusal_line answer) 0 out.old result out.new }
+    ensures { Put (refusal_line (Err refusal)) 0 out.old result out.new }
 {
-    let number = put_count(out, 0, b"refused: number ", answer.code() as usize);
-    let place = put_count(out, number, b", place ", answer.place() % WORD);
+    let number = put_count(out, 0, "refused: number ", refusal.code() as usize);
+    let place = put_count(out, number, ", place ", refusal.place() % WORD);
     put_end(out, place, false)
 }

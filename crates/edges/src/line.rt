@@ -13,11 +13,11 @@ fn put_kind(out: &mut [u8], at: usize, kind: Kind) -> usize
     ensures { Put (kind_text kind) at out.old result out.new }
 {
     match kind {
-        Kind::Absent => put_text(out, at, b"absent"),
-        Kind::GhostBottom => put_text(out, at, b"ghost bottom"),
-        Kind::GhostTop => put_text(out, at, b"ghost top"),
-        Kind::PairBottom => put_text(out, at, b"pair bottom"),
-        Kind::PairTop => put_text(out, at, b"pair top"),
+        Kind::Absent => put_text(out, at, "absent"),
+        Kind::GhostBottom => put_text(out, at, "ghost bottom"),
+        Kind::GhostTop => put_text(out, at, "ghost top"),
+        Kind::PairBottom => put_text(out, at, "pair bottom"),
+        Kind::PairTop => put_text(out, at, "pair top"),
     }
 }
 
@@ -27,9 +27,9 @@ fn put_stem(out: &mut [u8], at: usize, stem: u8) -> usize
     ensures { Put (stem_text stem) at out.old result out.new }
 {
     if stem == SYNTHETIC {
-        return put_text(out, at, b" of no stem");
+        return put_text(out, at, " of no stem");
     }
-    let next = put_text(out, at, b" of stem ");
+    let next = put_text(out, at, " of stem ");
     put_number(out, next, stem as u32)
 }
 
@@ -39,9 +39,9 @@ pub(crate) fn put_end(out: &mut [u8], at: usize, locked: bool) -> usize
     ensures { Put (end_text locked) at out.old result out.new }
 {
     if locked {
-        return put_text(out, at, b", locked\n");
+        return put_text(out, at, ", locked\n");
     }
-    put_text(out, at, b"\n")
+    put_text(out, at, "\n")
 }
 
 // Puts the line of an edge.
@@ -49,14 +49,11 @@ pub(crate) fn put_line(out: &mut [u8], at: usize, edge: EdgeRecord) -> usize
     requires { at + length (line_of edge) ≤ length out.old }
     ensures { Put (line_of edge) at out.old result out.new }
 {
-    let height = edge.height;
-    let device = edge.device;
-    let kind = edge.kind;
-    let units = put_decimal(out, at, height);
-    let middle = put_text(out, units, b" units at ");
-    let pixels = put_decimal(out, middle, device);
-    let next = put_text(out, pixels, b" pixels: ");
-    let named = put_kind(out, next, kind);
+    let units = put_decimal(out, at, edge.height);
+    let middle = put_text(out, units, " units at ");
+    let pixels = put_decimal(out, middle, edge.device);
+    let next = put_text(out, pixels, " pixels: ");
+    let named = put_kind(out, next, edge.kind);
     let owned = put_stem(out, named, edge.stem);
     put_end(out, owned, edge.locked)
 }

@@ -8,11 +8,12 @@ mod counts;
 mod line;
 mod page;
 
-ghost use Rattle.std.specs.Prelude.{◌≤◌, length, IfOk};
+ghost use Rattle.std.specs.Prelude.{◌≤◌, length};
 
+use input::read_full;
 use std::env::FillError;
 use std::io;
-use std::io::{Read, Write};
+use std::io::Write;
 use std::rt::Env;
 
 // The bytes that are read at most, one more than a script can have; those of an argument; and those
@@ -35,21 +36,6 @@ fn asked_page<R: Env>(rt: &R, script: &[u8], out: &mut [u8]) -> usize
         Err(FillError::TooLong) => page::page_for(script, b"", out),
         Err(FillError::NotPresent) => page::page(script, argument::MOST_COMMANDS, out),
     }
-}
-
-// Reads until the bytes are full or the input ends; how many bytes that is.
-fn read_full<R: Read>(input: &mut R, bytes: &mut [u8]) -> io::Result<usize>
-    ensures { IfOk result (λ n. n ≤ length bytes.new) }
-{
-    let mut done = 0;
-    for _ in 0..u64::MAX {
-        let n = input.read(&mut bytes[done..])?;
-        if n == 0 {
-            break;
-        }
-        done += n;
-    }
-    Ok(done)
 }
 
 fn main(rt: HostRuntime) -> io::Result<()> {

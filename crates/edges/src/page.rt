@@ -29,9 +29,8 @@ pub(crate) fn page(script: &[u8], commands: usize, out: &mut [u8]) -> usize
     requires { 16384 ≤ length out.old }
     ensures { Put (page_of script.now commands) 0 out.old result out.new }
 {
-    let answer = check_script(script);
-    if answer.code() != 0 {
-        return put_refusal(out, answer);
+    if let Err(refusal) = check_script(script) {
+        return put_refusal(out, refusal);
     }
     put_map(out, map_after(script, commands))
 }
@@ -42,7 +41,7 @@ pub(crate) fn page_for(script: &[u8], text: &[u8], out: &mut [u8]) -> usize
     ensures { Put (asked_page script.now text.now) 0 out.old result out.new }
 {
     if !is_number(text) {
-        return put_text(out, 0, b"the argument is a number of commands\n");
+        return put_text(out, 0, "the argument is a number of commands\n");
     }
     page(script, number_in(text), out)
 }

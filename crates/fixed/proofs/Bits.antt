@@ -13,6 +13,7 @@ use mir.Syntax.{Width}
 use mir.Val.{bits, hbits, sel}
 use lib.Signed.{mag}
 use mir.ValLaws.{half_full, bits-suc}
+use Rattle.std.specs.Int.{int_wrap}
 use mir.Facts.{to_z_pos, to_z-neg, Fits-of_z, sfits_widen, sfits_to_z, Fits-of_lt}
 use Rattle.fixed.specs.Integers.{low_bits, clear_low, bits_of, signed, wrap32}
 use Rattle.fixed.proofs.Ints.{ints, up, dn, of-add, of-sub, sub-fits}
@@ -94,6 +95,12 @@ unfolding low_bits
 low-lt k (pos n) = mod-lt n (pow_pos k)
 low-lt k (negsuc n) = omega (arith, pow_pos k)
 
+-- what the machine's wrapping sums leave of a number is its low 32 bits, read as signed
+pub wrap-is : (z : ℤ) → int_wrap w32 z ≡ wrap32 z
+unfolding int_wrap wrap32 signed low_bits
+wrap-is (pos n) = refl
+wrap-is (negsuc n) = ap (to_z w32) (omega arith)
+
 -- what is wrapped fits
 pub wrap-fits : (z : ℤ) → SFits w32 (wrap32 z)
 unfolding wrap32 signed
@@ -124,10 +131,6 @@ of-wrap z h = omega (ints, of_low z h, of-to_z (low_bits 32 z) (low-lt 32 z))
 -- an i32 fits an i64
 pub wide : {z : ℤ} → SFits w32 z → SFits w64 z
 wide h = sfits_widen tt h
-
--- an i32 as the machine widens it
-pub widened : (z : ℤ) → SFits w32 z → to_z w64 (of_z w64 (to_z w32 (of_z w32 z))) ≡ z
-widened z h = rw (to_z-of_z h) (to_z-of_z (wide h))
 
 -- what a call hands back of a signed number: the machine's reading of its bits is the number
 pub read : (w : Width) (z : ℤ) → mag z < 2 ^ hbits w → to_z w (of_z w z) ≡ z

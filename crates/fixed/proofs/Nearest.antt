@@ -1,14 +1,13 @@
 -- Sizes, products and rounded quotients, as the code comes to them: by the sign that it tests.
 -- Assumes nothing.
-use Rattle.std.proofs.Common.{◌≡◌, ℕ, zero, suc, ◌+◌, ◌*◌, ◌/◌, ◌^◌, ◌<◌, ◌≤◌, true, false, ltb, ℤ, pos, negsuc, ◌+ℤ◌}
-use Rattle.std.proofs.Common.{◌-ℤ◌, ◌*ℤ◌, neg_ℤ, nat_abs, ◌<ℤ◌, sym, refl, ap, ◌∙◌, true≢false, mul-le-mul, arith, w32}
+use Rattle.std.proofs.Common.{◌≡◌, ℕ, zero, suc, ◌+◌, ◌*◌, ◌/◌, ◌^◌, ◌<◌, true, false, ltb, ℤ, pos, negsuc, ◌+ℤ◌}
+use Rattle.std.proofs.Common.{◌-ℤ◌, ◌*ℤ◌, neg_ℤ, nat_abs, refl, ap, ◌∙◌, true≢false, arith, w32}
 use Rattle.std.proofs.Common.{w64, SFits, of_z, ltb-true}
 use native.Mathlib.Nat.{div-div-eq-div-mul, zero-div}
-use lib.Signed.{lt_z, quot_z, nat_abs-le}
-use Rattle.fixed.specs.Integers.{nearest, wrap32}
+use lib.Signed.{lt_z, quot_z}
+use Rattle.fixed.specs.Integers.{nearest}
 use Rattle.fixed.specs.Fixed.{MAX, over_zero, quotient_of}
 use Rattle.fixed.proofs.Ints.{ints, of-sub, up_neg, dn-neg}
-use Rattle.fixed.proofs.Bits.{wrap-id}
 
 no-natural-below : (n : ℕ) → ltb n 0 ≡ true → ⊥
 no-natural-below n e = omega (arith, ltb-true n 0 e)
@@ -18,43 +17,12 @@ abs_neg : (n : ℕ) → nat_abs (neg_ℤ (pos n)) ≡ n
 abs_neg zero = refl
 abs_neg (suc n) = refl
 
-abs-mul : (a b : ℤ) → nat_abs (a *ℤ b) ≡ nat_abs a * nat_abs b
-abs-mul (pos a) (pos b) = refl
-abs-mul (pos a) (negsuc b) = abs_neg (a * suc b)
-abs-mul (negsuc a) (pos b) = abs_neg (suc a * b)
-abs-mul (negsuc a) (negsuc b) = refl
-
--- the product of two i32
-pub mul-bound : (a b : ℤ) → SFits w32 a → SFits w32 b → nat_abs (a *ℤ b) ≤ 2 ^ 62
-mul-bound a b h k = rw (abs-mul a b) (mul-le-mul (nat_abs-le a h.sfits) (nat_abs-le b k.sfits))
-
 pub abs-fits : (z : ℤ) → nat_abs z < 2 ^ 63 → SFits w64 z
 abs-fits (pos n) h = omega arith
 abs-fits (negsuc n) h = omega arith
 
 pub neg-fits : (m : ℕ) → m < 2 ^ 63 → SFits w64 (neg_ℤ (pos m))
 neg-fits m h = abs-fits (neg_ℤ (pos m)) (rw (abs_neg m) h)
-
-pub abs-below : (a : ℤ) → lt_z a (pos 0) ≡ true → neg_ℤ a ≡ pos (nat_abs a)
-abs-below (pos a) e = absurd (no-natural-below a e)
-abs-below (negsuc a) e = refl
-
-pub abs-above : (a : ℤ) → SFits w32 a → lt_z a (pos 0) ≡ false → a ≡ wrap32 (pos (nat_abs a))
-abs-above (pos a) h e = sym (wrap-id (pos a) h)
-abs-above (negsuc a) h e = absurd (true≢false e)
-
-pub size-pos : (z : ℤ) → pos 0 <ℤ z → 0 < nat_abs z
-size-pos (pos n) h = omega ints
-size-pos (negsuc n) h = omega arith
-
-pub size_below : (b : ℤ) → lt_z b (pos 0) ≡ true → 0 < nat_abs b
-size_below (pos n) e = absurd (no-natural-below n e)
-size_below (negsuc n) e = omega arith
-
-pub size_above : (b : ℤ) → (of_z w32 b ≡ 0 → ⊥) → lt_z b (pos 0) ≡ false → 0 < nat_abs b
-size_above (pos zero) h e = absurd (h refl)
-size_above (pos (suc n)) h e = omega arith
-size_above (negsuc n) h e = absurd (true≢false e)
 
 -- ---- rounding to the nearest
 -- (n + d / 2) / d rounds n / d to the nearest, the half up

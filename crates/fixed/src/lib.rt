@@ -10,20 +10,14 @@ ghost use Rattle.fixed.specs.Fixed.{fract_f, half_f, midpoint_f, trunc_f, less_f
 pub fn bits_of(x: i32) -> u32
     ensures { result ≡ bits_of x }
 {
-    if x < 0 {
-        return !((!x) as u32);
-    }
-    x as u32
+    x.cast_unsigned()
 }
 
 // 32 bits, read as a number with a sign.
 pub fn signed(bits: u32) -> i32
     ensures { result ≡ signed bits }
 {
-    if bits < 0x8000_0000 {
-        return bits as i32;
-    }
-    !((!bits) as i32)
+    bits.cast_signed()
 }
 
 // The low 32 bits of x, as a number with a sign.
@@ -44,10 +38,7 @@ fn product(a: i32, b: i32) -> i64
 fn size(x: i32) -> u32
     ensures { result ≡ unsigned_abs x }
 {
-    if x < 0 {
-        return (0 - (x as i64)) as u32;
-    }
-    x as u32
+    x.unsigned_abs()
 }
 
 // p / d to the nearest whole number, halves away from zero. The bound holds of every product of two
@@ -59,9 +50,10 @@ fn nearest_div(p: i64, d: u32) -> i64
     let whole = d as i64;
     let half = (d / 2) as i64;
     if p < 0 {
-        return (p - half) / whole;
+        (p - half) / whole
+    } else {
+        (p + half) / whole
     }
-    (p + half) / whole
 }
 
 // a · b / d to the nearest, halves away from zero, wrapping: the product, the quotient and a·b/c
@@ -77,14 +69,11 @@ fn ratio(a: i32, b: i32, d: u32) -> i32
 pub fn least(a: usize, b: usize) -> usize
     ensures { result ≡ min a b }
 {
-    if a < b {
-        return a;
-    }
-    b
+    a.min(b)
 }
 
 // Ports `Fixed`, which hint.rs uses and does not contain.
-#[derive(Clone, Copy)]
+#[derive(Clone, Copy, Debug, PartialEq, Eq, PartialOrd, Ord)]
 pub struct Fixed {
     pub bits: i32,
 }
@@ -110,17 +99,17 @@ impl Fixed {
     pub fn add(self, b: Fixed) -> Fixed
         ensures { result ≡ add_f self b }
     {
-        let sum = std::num::wrapping_add_u32(bits_of(self.bits), bits_of(b.bits));
-        Fixed { bits: signed(sum) }
+        Fixed {
+            bits: self.bits.wrapping_add(b.bits),
+        }
     }
 
     // self - b, wrapping.
     pub fn sub(self, b: Fixed) -> Fixed
         ensures { result ≡ sub_f self b }
     {
-        let difference = std::num::wrapping_sub_u32(bits_of(self.bits), bits_of(b.bits));
         Fixed {
-            bits: signed(difference),
+            bits: self.bits.wrapping_sub(b.bits),
         }
     }
 
@@ -128,17 +117,18 @@ impl Fixed {
     pub fn neg(self) -> Fixed
         ensures { result ≡ neg_f self }
     {
-        Fixed::ZERO.sub(self)
+        Fixed {
+            bits: self.bits.wrapping_neg(),
+        }
     }
 
     // The absolute value, wrapping.
     pub fn abs(self) -> Fixed
         ensures { result ≡ abs_f self }
     {
-        if self.less(Fixed::ZERO) {
-            return self.neg();
+        Fixed {
+            bits: self.bits.wrapping_abs(),
         }
-        self
     }
 
     // Ports `twice`.
@@ -234,36 +224,32 @@ impl Fixed {
     pub fn less(self, b: Fixed) -> bool
         ensures { result ≡ less_f self b }
     {
-        self.bits < b.bits
+        self < b
     }
 
     pub fn at_most(self, b: Fixed) -> bool
         ensures { result ≡ at_most_f self b }
     {
-        self.bits <= b.bits
+        self <= b
     }
 
     pub fn same(self, b: Fixed) -> bool
         ensures { result ≡ same_f self b }
     {
-        self.bits == b.bits
+        self == b
     }
 
+    #[tactic(auto, using(std::proofs::lemmas::Int::ints), unfolding(crate::specs::Fixed::min_f))]
     pub fn min(self, b: Fixed) -> Fixed
         ensures { result ≡ min_f self b }
     {
-        if self.at_most(b) {
-            return self;
-        }
-        b
+        std::cmp::min(self, b)
     }
 
+    #[tactic(auto, using(std::proofs::lemmas::Int::ints), unfolding(crate::specs::Fixed::max_f))]
     pub fn max(self, b: Fixed) -> Fixed
         ensures { result ≡ max_f self b }
     {
-        if self.at_most(b) {
-            return b;
-        }
-        self
+        std::cmp::max(self, b)
     }
 }

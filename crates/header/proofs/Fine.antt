@@ -10,12 +10,12 @@ use lib.IntN.{pos}
 use lib.ListN.{length}
 use lib.Signed.{◌<ℤ◌}
 use borrow.Author.Tests.{le-ltb, ltb-false}
+use Rattle.std.specs.Prelude.{Ok}
 use Rattle.fixed.specs.Integers.{signed}
 use Rattle.fixed.specs.Fixed.{from_bits, less_f}
 use Rattle.fixed.proofs.Ints.{ints}
 use Rattle.fixed.proofs.Order.{heights}
 use Rattle.fixed.proofs.Tests.{both_false}
-use Rattle.words.specs.declared.answer.Answer.TheVariants.{Ok}
 use Rattle.words.specs.Words.{raw_at, negative, number_at}
 use Rattle.words.specs.Answers.{first_of}
 use Rattle.words.proofs.Rows.{Refusing, none-holds}
@@ -36,18 +36,18 @@ pub record Fine (s : List ℕ) : Type 0 where
 
 module _ (s : List ℕ) where
   -- every test refuses
-  pub header-refusing : Refusing Ok (header_rows s)
+  pub header-refusing : Refusing (Ok tt) (header_rows s)
   unfolding header_rows
   header-refusing = refusing (header_rows s) refl
 
-  pub params-refusing : Refusing Ok (param_rows (raw_at s))
+  pub params-refusing : Refusing (Ok tt) (param_rows (raw_at s))
   unfolding param_rows
   params-refusing = refusing (param_rows (raw_at s)) refl
 
-  pub fine : first_of (header_rows s) ≡ Ok → Fine s
+  pub fine : first_of (header_rows s) ≡ Ok tt → Fine s
   unfolding header_rows
   fine e =
-      let f = none-holds Ok (header_rows s) header-refusing e in
+      let f = none-holds (Ok tt) (header_rows s) header-refusing e in
       let n = long (length s) (f 0) in
       let p3 = both_false (ltb (raw_at s 3) 8) (ltb 64 (raw_at s 3)) (f 3) in
       let least = ltb-false (raw_at s 3) 8 p3.0 in
@@ -69,10 +69,10 @@ module _ (s : List ℕ) where
         bytes = omega arith;
       }
 
-  pub whole : Fine s → first_of (param_rows (raw_at s)) ≡ Ok → WholeParams s
+  pub whole : Fine s → first_of (param_rows (raw_at s)) ≡ Ok tt → WholeParams s
   unfolding param_rows
   whole h e =
-      let f = none-holds Ok (param_rows (raw_at s)) params-refusing e in
+      let f = none-holds (Ok tt) (param_rows (raw_at s)) params-refusing e in
       let pairs = alike (raw_at s 3) (8 + 2 * pairs_in (raw_at s)) (f 5) in
       record {
         blues = ltb-false 7 (raw_at s 12) (f 1);
@@ -82,11 +82,11 @@ module _ (s : List ℕ) where
         there = omega arith;
       }
 
-  pub scaled : first_of (param_rows (raw_at s)) ≡ Ok → pos 0 <ℤ (number_at (raw_at s) 1).bits
+  pub scaled : first_of (param_rows (raw_at s)) ≡ Ok tt → pos 0 <ℤ (number_at (raw_at s) 1).bits
   unfolding param_rows
   scaled e =
       let t : less_f (number_at (raw_at s) 1) (from_bits (pos 1)) ≡
-      false = none-holds Ok (param_rows (raw_at s)) params-refusing e 0 in
+      false = none-holds (Ok tt) (param_rows (raw_at s)) params-refusing e 0 in
       omega heights
 
 -- ---- a word is negative exactly if it is 2^31 or more as a natural

@@ -8,11 +8,10 @@ use native.Mathlib.Omega.{arith}
 use lib.Dec.{eqb, ltb}
 use lib.ListN.{drop}
 use borrow.Author.Tests.{lt-ltb, le-ltb, lt-leb, eq-eqb, ne_eqb, ltb-true, ltb-false, eqb-true, not-false}
+use Rattle.std.specs.Prelude.{Ok}
 use Rattle.fixed.proofs.Tests.{both, both_false}
-use Rattle.words.specs.declared.answer.Answer.{Answer}
-use Rattle.words.specs.declared.answer.Answer.TheVariants.{Ok}
 use Rattle.words.specs.Rows.{Row, row_at}
-use Rattle.words.specs.Answers.{first_of, number_of}
+use Rattle.words.specs.Answers.{Answer, first_of, number_of}
 use Rattle.words.proofs.Rows.{hit, skip, Refusing}
 use Rattle.words.proofs.Answers.{refusal}
 use Rattle.header.specs.Header.{differs, outside, length_bad}
@@ -22,20 +21,21 @@ use Rattle.words.specs.Words.{negative}
 pub record Past (rs : List (Row Answer)) (k : ℕ) : Type 0 where
   pub rest : first_of rs ≡ first_of (drop k rs)
 
-pub pass : {rs : List (Row Answer)} (k : ℕ) → Past rs k → (row_at Ok rs k).fault ≡ false → Past rs (suc k)
-pass {rs} k p e = record { rest = p.rest ∙ skip Ok rs k e }
+pub pass : {rs : List (Row Answer)} (k : ℕ) → Past rs k → (row_at (Ok tt) rs k).fault ≡ false → Past rs (suc k)
+pass {rs} k p e = record { rest = p.rest ∙ skip (Ok tt) rs k e }
 
 -- and the next one does
-pub stop : {rs : List (Row Answer)} (k : ℕ) → Past rs k → (row_at Ok rs k).fault ≡ true → (row_at Ok rs k).said ≡
+pub stop : {rs : List (Row Answer)} (k : ℕ) → Past rs k → (row_at (Ok tt) rs k).fault ≡ true →
+    (row_at (Ok tt) rs k).said ≡
     first_of rs
-stop {rs} k p e = sym (p.rest ∙ hit Ok rs k e)
+stop {rs} k p e = sym (p.rest ∙ hit (Ok tt) rs k e)
 
 -- ---- tests that all refuse, by computation
 abbrev pub refuses : List (Row Answer) → Bool
 refuses [] = true
 refuses (r ∷ rs) = ltb 0 (number_of r.said) && refuses rs
 
-pub refusing : (rs : List (Row Answer)) → refuses rs ≡ true → Refusing Ok rs
+pub refusing : (rs : List (Row Answer)) → refuses rs ≡ true → Refusing (Ok tt) rs
 refusing [] h k l = absurd (omega arith)
 refusing (r ∷ rs) h zero l =
     refusal (ltb-true 0 (number_of r.said) (both (ltb 0 (number_of r.said)) (refuses rs) h).0)

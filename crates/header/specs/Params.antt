@@ -1,17 +1,17 @@
 -- The parameters of a script (01, "The script"): blue scale, shift, fuzz, language group, four
 -- counts, the pairs. They are said of words, whatever gives them; a script's are raw_at of its
 -- bytes.
-use Rattle.std.specs.Prelude.{List, [], ◌∷◌, ◌++◌, ℕ, zero, suc, ◌+◌, ◌-◌, ◌*◌, ◌≤◌, ltb, pos, length, replicate}
+use Rattle.std.specs.Prelude.{List, [], ◌∷◌, ◌++◌, ℕ, zero, suc, ◌+◌, ◌-◌, ◌*◌, ◌≤◌, ltb, pos, length, replicate, Err}
 use Rattle.fixed.specs.Fixed.{from_bits, less_f}
 use Rattle.zones.specs.declared.blues.Blue.{Blue}
 use Rattle.zones.specs.declared.blues.Blues.{Blues}
 use Rattle.zones.specs.declared.state.HintParams.{HintParams}
 use Rattle.zones.specs.Zones.{max_blues, no_blue}
-use Rattle.words.specs.declared.answer.Answer.{Answer}
-use Rattle.words.specs.declared.answer.Answer.TheVariants.{BadScript, BadScale, BadBlues}
+use Rattle.words.specs.declared.answer.Refusal.TheVariants.{BadScript, BadScale, BadBlues}
 use Rattle.words.specs.Words.{raw_at, word_at, number_at}
 use Rattle.words.specs.Rows.{Row, row}
 use Rattle.header.specs.Header.{differs}
+use Rattle.words.specs.Answers.{Answer}
 
 -- the pairs of all four lists
 abbrev pub pairs_in : (ℕ → ℕ) → ℕ
@@ -20,12 +20,12 @@ pairs_in w = w 12 + w 13 + w 14 + w 15
 -- the tests, in 01's order; a count that is negative is above 7 as a number below 2^32
 unfoldable pub param_rows : (ℕ → ℕ) → List (Row Answer)
 param_rows w =
-    row (less_f (number_at w 1) (from_bits (pos 1))) BadScale ∷
-    row (ltb max_blues (w 12)) (BadBlues 12) ∷
-    row (ltb max_blues (w 13)) (BadBlues 13) ∷
-    row (ltb max_blues (w 14)) (BadBlues 14) ∷
-    row (ltb max_blues (w 15)) (BadBlues 15) ∷
-    row (differs (w 3) (8 + 2 * pairs_in w)) (BadScript 3) ∷
+    row (less_f (number_at w 1) (from_bits (pos 1))) (Err BadScale) ∷
+    row (ltb max_blues (w 12)) (Err (BadBlues 12)) ∷
+    row (ltb max_blues (w 13)) (Err (BadBlues 13)) ∷
+    row (ltb max_blues (w 14)) (Err (BadBlues 14)) ∷
+    row (ltb max_blues (w 15)) (Err (BadBlues 15)) ∷
+    row (differs (w 3) (8 + 2 * pairs_in w)) (Err (BadScript 3)) ∷
     []
 
 abbrev pub pair_at : (ℕ → ℕ) → ℕ → Blue

@@ -27,13 +27,14 @@ fn read_blues(script: &[u8], at: usize, count: usize) -> Blues
         top: Fixed::ZERO,
     };
     let mut pairs = [none; MAX_BLUES];
-    for i in 0..count {
-        pairs[i] = pair(script, at + 2 * i);
+    for (i, place) in pairs[..count].iter_mut().enumerate() {
+        *place = pair(script, at + 2 * i);
     }
     Blues { pairs, count }
 }
 
 // The parameters, in the order in which the script has them.
+#[tactic(auto, unfolding(crate::specs::Params::params_of))]
 pub fn read_params(script: &[u8]) -> HintParams
     requires { WholeParams script.now }
     ensures { result ≡ params_of (raw_at script.now) }

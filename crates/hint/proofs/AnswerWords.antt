@@ -8,8 +8,7 @@ use lib.ListN.{length, take, drop, get_or, length-append, length-take}
 use borrow.Author.Tests.{eq-eqb, ne_eqb}
 use Rattle.fixed.specs.Integers.{bits_of}
 use Rattle.fixed.proofs.Counts.{take-least}
-use Rattle.words.specs.declared.answer.Answer.{Answer}
-use Rattle.words.specs.Answers.{number_of, place_of}
+use Rattle.words.specs.Answers.{Answer, number_of, place_of}
 use Rattle.words.specs.Bytes.{bytes_of, laid}
 use Rattle.words.proofs.Laid.{bytes-length}
 use Rattle.hint.specs.Encode.{answer_words, result_in, Answered}

@@ -12,8 +12,7 @@ use lib.ListN.{length, drop, length-replicate}
 use lib.Seq.{take_at}
 use Rattle.fixed.specs.Integers.{low_bits, bits_of}
 use Rattle.pen.specs.Records.{written}
-use Rattle.words.specs.declared.answer.Answer.{Answer}
-use Rattle.words.specs.Answers.{number_of, place_of, first_of, refuses}
+use Rattle.words.specs.Answers.{Answer, number_of, place_of, first_of, refuses}
 use Rattle.run.specs.Room.{Fitted, fitted}
 use Rattle.run.proofs.Bounds.{within-room}
 use Rattle.script.specs.Script.{check_rows, steps_in, result_words, left_by, result_by, script_of}

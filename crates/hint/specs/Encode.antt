@@ -2,9 +2,8 @@
 -- bytes, the least first.
 use Rattle.std.specs.Prelude.{◌≡◌, cond, List, [], ◌∷◌, map, ℕ, ◌+◌, ◌*◌, ℤ, pos, length, take, get_or, replicate}
 use Rattle.fixed.specs.Integers.{bits_of}
-use Rattle.words.specs.declared.answer.Answer.{Answer}
 use Rattle.words.specs.Bytes.{laid}
-use Rattle.words.specs.Answers.{number_of, place_of, refuses}
+use Rattle.words.specs.Answers.{Answer, number_of, place_of, refuses}
 use Rattle.run.specs.Room.{fitted}
 use Rattle.script.specs.Script.{steps_in, result_words, script_of}
 

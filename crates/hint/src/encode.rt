@@ -3,17 +3,17 @@ ghost use Rattle.std.specs.Prelude.{◌≡◌, ◌+◌, ◌*◌, ◌≤◌, leng
 ghost use Rattle.hint.specs.Encode.{result_in, answer_words, Answered};
 
 use fixed::{bits_of, least};
-use words::{Answer, store, store_words};
+use words::{Answer, code, place, store, store_words};
 
 // How many words of an output are the result: its header, and the record words that the header
 // names.
 pub(crate) fn result_words(out: &[i32]) -> usize
     ensures { result ≡ length (result_in out.now) }
 {
-    if out.len() < 4 {
-        return out.len();
+    match out.get(3) {
+        None => out.len(),
+        Some(records) => least(4 + (bits_of(*records) as usize), out.len()),
     }
-    least(4 + (bits_of(out[3]) as usize), out.len())
 }
 
 // An answer and, if it is OK, the result that an output holds, at the start of some bytes; how many
@@ -23,9 +23,9 @@ pub(crate) fn answered(answer: Answer, out: &[i32], bytes: &mut [u8]) -> usize
     ensures { Answered (answer_words answer (result_in out.now)) bytes.old result
         bytes.new }
 {
-    store(bytes, 0, answer.code());
-    store(bytes, 1, (answer.place() % 4294967296) as u32);
-    if answer.code() != 0 {
+    store(bytes, 0, code(answer));
+    store(bytes, 1, (place(answer) % 4294967296) as u32);
+    if answer.is_err() {
         return 8;
     }
     let words = result_words(out);

@@ -4,11 +4,12 @@
 
 mod encode;
 
-ghost use Rattle.std.specs.Prelude.{◌≤◌, length, IfOk};
+ghost use Rattle.std.specs.Prelude.{◌≤◌, length};
 ghost use Rattle.hint.specs.Encode.{Answered, program_words};
 
+use input::read_full;
 use std::io;
-use std::io::{Read, Write};
+use std::io::Write;
 
 // The words that a script is run into; the bytes that are read at most, one more than a script can
 // have; and those of the longest answer: number, place and all of the words.
@@ -26,21 +27,6 @@ fn answer_to(script: &[u8], bytes: &mut [u8]) -> usize
     let mut out = [0i32; OUTPUT_WORDS];
     let answer = script::run_script(script, &mut out);
     encode::answered(answer, &out, bytes)
-}
-
-// Reads until the bytes are full or the input ends; how many bytes that is.
-fn read_full<R: Read>(input: &mut R, bytes: &mut [u8]) -> io::Result<usize>
-    ensures { IfOk result (λ n. n ≤ length bytes.new) }
-{
-    let mut done = 0;
-    for _ in 0..u64::MAX {
-        let n = input.read(&mut bytes[done..])?;
-        if n == 0 {
-            break;
-        }
-        done += n;
-    }
-    Ok(done)
 }
 
 fn main(rt: HostRuntime) -> io::Result<()> {

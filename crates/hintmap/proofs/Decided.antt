@@ -11,7 +11,7 @@ use Rattle.stems.specs.declared.edge.Hint.{Hint}
 use Rattle.stems.specs.Edge.{no_hint}
 use Rattle.stems.specs.Lists.{hint_in, held}
 use Rattle.hintmap.specs.declared.insert.Edges.{Edges}
-use Rattle.hintmap.specs.declared.insert.Outcome.TheVariants.{Enters, Dropped}
+use Rattle.std.proofs.Common.{Some, None}
 use Rattle.hintmap.specs.Map.{place_among, clear_ahead, clear_behind}
 use Rattle.hintmap.specs.Insert.{first_edge, may_enter, char_clear, below_clear, above_clear, only_if}
 use Rattle.hintmap.specs.Lent.{map_in, Comes}
@@ -25,7 +25,7 @@ pub record Here (ls : List ℤ) (ts : List ℕ) (n : ℕ) (e : Edges) (at : ℕ)
   pub place : at ≡ place_among (held ls ts n) (first_edge e).cs_coord
 
 -- what is dropped is so under any test before
-either : (b : Bool) → only_if b Dropped ≡ Dropped
+either : (b : Bool) → only_if b None ≡ None
 either true = refl
 either false = refl
 
@@ -36,14 +36,14 @@ module _ {ls : List ℤ} {ts : List ℕ} {n : ℕ} {e : Edges} {at : ℕ} (h : H
   -- the tests decide
   pub decided : {a b c d : Bool} → may_enter n e ≡ a → char_clear (drop at es) e ≡ b → below_clear es at e ≡ c →
       above_clear (drop at es) e ≡ d →
-      Comes ls ts n e (only_if a (only_if b (only_if c (only_if d (Enters at e)))))
+      Comes ls ts n e (only_if a (only_if b (only_if c (only_if d (Some (at, e))))))
   unfolding map_in four
   decided p q r t =
       λ s initial. sym (outcome-none (map_in ls ts n s) e initial ∙
       rw (view-map ls ts n h.fits s, sym h.place, p, q, r, t))
 
   -- the code asks for the edge before ahead of that in character height
-  pub no-below : may_enter n e ≡ true → below_clear es at e ≡ false → Comes ls ts n e Dropped
+  pub no-below : may_enter n e ≡ true → below_clear es at e ≡ false → Comes ls ts n e None
   no-below p r = rw (either (char_clear (drop at es) e)) at (decided p refl r refl)
 
   -- a test of the edge that code read at a place, or of none

@@ -8,7 +8,8 @@ use lib.Dec.{ltb}
 use lib.ListN.{length}
 use borrow.Author.Tests.{ltb-true}
 use Rattle.fixed.specs.declared.Fixed.{Fixed}
-use Rattle.fixed.specs.Fixed.{less_f}
+use Rattle.fixed.specs.Fixed.{less_f, at_most_f}
+use Rattle.fixed.proofs.Order.{heights}
 use Rattle.fixed.proofs.Tests.{both}
 use Rattle.stems.specs.declared.edge.Hint.{Hint}
 use Rattle.hintmap.specs.declared.map.HintMap.{HintMap}
@@ -16,6 +17,14 @@ use Rattle.hintmap.specs.declared.insert.Edges.{Edges}
 use Rattle.hintmap.specs.declared.insert.Edges.TheVariants.{One, Two}
 use Rattle.hintmap.specs.Map.{view}
 use Rattle.hintmap.specs.Insert.{first_edge, edges_of, may_enter, again, placed_by, placed_for}
+
+-- not below is at or above
+pub not_less : (a b : Fixed) → at_most_f a b ≡ not (less_f b a)
+not_less a b = go (less_f b a) refl
+  where
+    go : (t : Bool) → less_f b a ≡ t → at_most_f a b ≡ not t
+    go true e = omega heights
+    go false e = omega heights
 
 -- there is room for all of it
 pub enters-room : (n : ℕ) (e : Edges) → may_enter n e ≡ true → n + length (edges_of e) ≤ 96

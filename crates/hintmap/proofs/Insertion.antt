@@ -11,8 +11,7 @@ use Rattle.fixed.specs.Fixed.{ZERO}
 use Rattle.stems.specs.Lists.{held}
 use Rattle.hintmap.specs.declared.map.HintMap.{HintMap}
 use Rattle.hintmap.specs.declared.insert.Edges.{Edges}
-use Rattle.hintmap.specs.declared.insert.Outcome.{Outcome}
-use Rattle.hintmap.specs.declared.insert.Outcome.TheVariants.{Enters, Dropped}
+use Rattle.std.proofs.Common.{Option, Some, None}
 use Rattle.hintmap.specs.Map.{view}
 use Rattle.hintmap.specs.Insert.{edges_of, may_enter, insert_by, insert_in}
 use Rattle.hintmap.specs.WholeStems.{Ascends}
@@ -27,15 +26,15 @@ module _ (ls : List ℤ) (ts : List ℕ) (n : ℕ) (l : Lent ls ts n) (e : Edges
   m s = map_in ls ts n s
 
   -- what enters has its place and room
-  pub entered-fits : {at : ℕ} {p : Edges} → Comes ls ts n e (Enters at p) → (at ≤ n) × (may_enter n p ≡ true)
+  pub entered-fits : {at : ℕ} {p : Edges} → Comes ls ts n e (Some (at, p)) → (at ≤ n) × (may_enter n p ≡ true)
   unfolding map_in
   entered-fits c = subst (Fits (m ZERO)) (sym (c ZERO (m ZERO))) (outcome_fits (m ZERO) e (m ZERO) false)
 
   -- what came of it in the map
-  came : {o : Outcome} → Comes ls ts n e o → (s : Fixed) (initial : HintMap) →
+  came : {o : Option (ℕ × Edges)} → Comes ls ts n e o → (s : Fixed) (initial : HintMap) →
       insert_by o (m s) ≡ insert_in (m s) e initial false
   unfolding insert_in
-  came c s initial = ap (λ (o : Outcome). insert_by o (m s)) (c s initial)
+  came c s initial = ap (λ (o : Option (ℕ × Edges)). insert_by o (m s)) (c s initial)
 
   -- the order of edges is kept
   in_order : (n' : ℕ) (ls' : List ℤ) (ts' : List ℕ) → n' ≤ 96 →
@@ -45,10 +44,10 @@ module _ (ls : List ℤ) (ts : List ℕ) (n : ℕ) (l : Lent ls ts n) (e : Edges
       (insert-ascends (m ZERO) e (m ZERO) (map-long ls ts n l.fits ZERO)
       (subst Ascends (sym (view-map ls ts n l.fits ZERO)) (ascends ls ts n l.fits l.order)))
 
-  pub dropped-is : Comes ls ts n e Dropped → Inserted ls ts n e n ls ts
+  pub dropped-is : Comes ls ts n e None → Inserted ls ts n e n ls ts
   dropped-is c = record { lent = l; map = λ s initial. came c s initial }
 
-  pub entered-is : {at : ℕ} {p : Edges} (n' : ℕ) (ls' : List ℤ) (ts' : List ℕ) → Comes ls ts n e (Enters at p) →
+  pub entered-is : {at : ℕ} {p : Edges} (n' : ℕ) (ls' : List ℤ) (ts' : List ℕ) → Comes ls ts n e (Some (at, p)) →
       Entered ls ts n at (edges_of p) n' ls' ts' → Inserted ls ts n e n' ls' ts'
   entered-is {at} {p} n' ls' ts' c q =
       let room = enters-room n p (entered-fits c).1 in

@@ -6,6 +6,7 @@ pub mod Enter
 pub mod View
 pub mod Outcome
 pub mod Placed
+pub mod Compared
 pub mod Lent
 pub mod Found
 pub mod Order

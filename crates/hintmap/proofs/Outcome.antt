@@ -10,8 +10,7 @@ use Rattle.stems.specs.declared.edge.Hint.{Hint}
 use Rattle.hintmap.specs.declared.map.HintMap.{HintMap}
 use Rattle.hintmap.specs.declared.insert.Edges.{Edges}
 use Rattle.hintmap.specs.declared.insert.Edges.TheVariants.{One, Two}
-use Rattle.hintmap.specs.declared.insert.Outcome.{Outcome}
-use Rattle.hintmap.specs.declared.insert.Outcome.TheVariants as outcome
+use Rattle.std.proofs.Common.{Option, Some, None}
 use Rattle.hintmap.specs.Map.{view}
 use Rattle.hintmap.specs.Insert.{first_edge, edges_of, may_enter, again, placed_by, char_clear, below_clear}
 use Rattle.hintmap.specs.Insert.{above_clear}
@@ -42,9 +41,9 @@ pub record Clear (m : HintMap) (e : Edges) (initial : HintMap) (given : Bool) : 
   pub above : above_clear (drop (place_for m e) (view m)) (placed_for m e initial given) ≡ true
 
 -- the edges of an outcome may be put at its place
-abbrev pub Fits : HintMap → Outcome → Type 0
-Fits m (outcome.Enters at e) = (at ≤ m.len) × (may_enter m.len e ≡ true)
-Fits m outcome.Dropped = Unit {0}
+abbrev pub Fits : HintMap → Option (ℕ × Edges) → Type 0
+Fits m (Some (at, e)) = (at ≤ m.len) × (may_enter m.len e ≡ true)
+Fits m None = Unit {0}
 
 -- placed again or not, it differs on the device only
 again-alike : (b : Bool) (es : List Hint) (s₀ s : Fixed) (e : Edges) →
@@ -62,7 +61,7 @@ module _ (m : HintMap) (e : Edges) (initial : HintMap) (given : Bool) where
   p = placed_for m e initial given
 
   -- where all hold, the edges enter
-  pub passed : Clear m e initial given → outcome_of m e initial given ≡ outcome.Enters at p
+  pub passed : Clear m e initial given → outcome_of m e initial given ≡ Some (at, p)
   unfolding outcome_of
   passed c = rw (c.entry, c.character, c.below, c.above)
 
@@ -76,7 +75,7 @@ module _ (m : HintMap) (e : Edges) (initial : HintMap) (given : Bool) where
 
   -- what holds of edges that are dropped, and of those that enter by all tests, holds of the
   -- outcome
-  cases : (Q : Outcome → Type 0) → Q outcome.Dropped → (Clear m e initial given → Q (outcome.Enters at p)) →
+  cases : (Q : Option (ℕ × Edges) → Type 0) → Q None → (Clear m e initial given → Q (Some (at, p))) →
       Q (outcome_of m e initial given)
   unfolding outcome_of
   cases Q same put =
@@ -86,7 +85,7 @@ module _ (m : HintMap) (e : Edges) (initial : HintMap) (given : Bool) where
       go : (a : Bool) → may_enter m.len e ≡ a → (b : Bool) → char_clear (drop at (view m)) e ≡ b → (c : Bool) →
           below_clear (view m) at p ≡ c →
           (d : Bool) → above_clear (drop at (view m)) p ≡ d →
-          Q (only_if a (only_if b (only_if c (only_if d (outcome.Enters at p)))))
+          Q (only_if a (only_if b (only_if c (only_if d (Some (at, p))))))
       go true f true g true h true k = put (record { entry = f; character = g; below = h; above = k })
       go true f true g true h false k = same
       go true f true g false h d k = same
@@ -97,7 +96,7 @@ module _ (m : HintMap) (e : Edges) (initial : HintMap) (given : Bool) where
   pub by-outcome : (P : HintMap → Type 0) → P m → (Clear m e initial given → P (put_edges m at p)) →
       P (insert_in m e initial given)
   unfolding insert_in
-  by-outcome P same put = cases (λ (o : Outcome). P (insert_by o m)) same put
+  by-outcome P same put = cases (λ (o : Option (ℕ × Edges)). P (insert_by o m)) same put
 
   -- what is not entered leaves the map
   pub dropped : Dropped m e initial given

@@ -9,8 +9,7 @@ use Rattle.stems.specs.declared.edge.Hint.{Hint}
 use Rattle.hintmap.specs.declared.map.HintMap.{HintMap}
 use Rattle.hintmap.specs.declared.insert.Edges.{Edges}
 use Rattle.hintmap.specs.declared.insert.Edges.TheVariants.{One, Two}
-use Rattle.hintmap.specs.declared.insert.Outcome.{Outcome}
-use Rattle.hintmap.specs.declared.insert.Outcome.TheVariants.{Enters}
+use Rattle.std.proofs.Common.{ℕ, Option, Some}
 use Rattle.hintmap.specs.Map.{view}
 use Rattle.hintmap.specs.Insert.{first_edge, may_enter, bars, again, placed_by, char_clear, below_clear, above_clear}
 use Rattle.hintmap.specs.Insert.{place_for, placed_for, only_if, outcome_of, insert_by, insert_in}
@@ -25,12 +24,12 @@ placed-none m e initial =
     ap (λ (b : Bool). placed_by b (view initial) initial.scale m.scale e) (and-false (not (first_edge e).locked))
 
 -- four tests of edges at their place, and of the edges as they are placed
-unfoldable pub four : HintMap → Edges → Edges → Outcome
+unfoldable pub four : HintMap → Edges → Edges → Option (ℕ × Edges)
 four m e p =
     only_if (may_enter m.len e)
     (only_if (char_clear (drop (place_for m e) (view m)) e)
     (only_if (below_clear (view m) (place_for m e) p)
-    (only_if (above_clear (drop (place_for m e) (view m)) p) (Enters (place_for m e) p))))
+    (only_if (above_clear (drop (place_for m e) (view m)) p) (Some (place_for m e, p)))))
 
 -- placing leaves character heights and kinds
 same_tests : (m : HintMap) (b : Bool) (es : List Hint) (s₀ s : Fixed) (e : Edges) →
@@ -54,7 +53,7 @@ module _ (m : HintMap) (e : Edges) (initial other : HintMap) (given : Bool) wher
 
   pub insert-placed : insert_in m e initial given ≡ insert_in m (placed_for m e initial given) other false
   unfolding insert_in
-  insert-placed = ap (λ (o : Outcome). insert_by o m) outcome-placed
+  insert-placed = ap (λ (o : Option (ℕ × Edges)). insert_by o m) outcome-placed
 
 -- edges of which the first is locked stay where they are, whatever initial map is given
 pub insert-locked : (m : HintMap) (e : Edges) (initial other : HintMap) (given : Bool) → (first_edge e).locked ≡ true →

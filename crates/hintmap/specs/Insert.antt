@@ -1,5 +1,6 @@
 -- What an insertion is (01, "The map", first paragraph).
 use Rattle.std.specs.Prelude.{◌≡◌, Bool, true, false, not, ◌&&◌, ◌||◌, List, [], ◌∷◌, ℕ, drop, ltb}
+use Rattle.std.specs.Prelude.{Option, Some, None}
 use Rattle.fixed.specs.declared.Fixed.{Fixed}
 use Rattle.fixed.specs.Fixed.{add_f, sub_f, mul_f, half_f, midpoint_f, less_f, at_most_f, same_f}
 use Rattle.stems.specs.declared.edge.Hint.{Hint}
@@ -8,8 +9,6 @@ use Rattle.stems.specs.declared.edge.Shape.TheVariants.{BottomGhost, TopGhost, P
 use Rattle.hintmap.specs.declared.map.HintMap.{HintMap}
 use Rattle.hintmap.specs.declared.insert.Edges.{Edges}
 use Rattle.hintmap.specs.declared.insert.Edges.TheVariants.{One, Two}
-use Rattle.hintmap.specs.declared.insert.Outcome.{Outcome}
-use Rattle.hintmap.specs.declared.insert.Outcome.TheVariants.{Enters, Dropped}
 use Rattle.stems.specs.Edge.{max_hints, last_hint, is_valid, is_pair_top, at_device}
 use Rattle.hintmap.specs.Map.{view, place_among, put_in, map_of, clear_ahead, clear_behind}
 
@@ -99,22 +98,22 @@ placed_for m e initial given =
     placed_by (not (first_edge e).locked && given) (view initial) initial.scale m.scale e
 
 -- a test that does not hold drops the edges, whatever comes of those after it
-abbrev pub only_if : Bool → Outcome → Outcome
+abbrev pub only_if : Bool → Option (ℕ × Edges) → Option (ℕ × Edges)
 only_if true o = o
-only_if false o = Dropped
+only_if false o = None
 
 -- what an insertion comes to: the tests in their order, and the edges at their place where all hold
-unfoldable pub outcome_of : HintMap → Edges → HintMap → Bool → Outcome
+unfoldable pub outcome_of : HintMap → Edges → HintMap → Bool → Option (ℕ × Edges)
 outcome_of m e initial given =
     only_if (may_enter m.len e)
     (only_if (char_clear (drop (place_for m e) (view m)) e)
     (only_if (below_clear (view m) (place_for m e) (placed_for m e initial given))
     (only_if (above_clear (drop (place_for m e) (view m)) (placed_for m e initial given))
-    (Enters (place_for m e) (placed_for m e initial given)))))
+    (Some (place_for m e, placed_for m e initial given)))))
 
-abbrev pub insert_by : Outcome → HintMap → HintMap
-insert_by (Enters at e) m = put_edges m at e
-insert_by Dropped m = m
+abbrev pub insert_by : Option (ℕ × Edges) → HintMap → HintMap
+insert_by (Some (at, e)) m = put_edges m at e
+insert_by None m = m
 
 -- the whole
 unfoldable pub insert_in : HintMap → Edges → HintMap → Bool → HintMap

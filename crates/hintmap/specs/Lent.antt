@@ -1,14 +1,13 @@
 -- A map in lent lists of numbers: the edges that the first places hold, and what is done with them
 -- in the words of the map that they are.
 use Rattle.std.specs.Prelude.{◌≡◌, Bool, true, false, not, List, ◌++◌, ℕ, ◌+◌, ◌-◌, ◌≤◌, ◌<◌, ℤ, length, drop}
-use Rattle.std.specs.Prelude.{replicate, ◌≤ℤ◌}
+use Rattle.std.specs.Prelude.{replicate, ◌≤ℤ◌, Option}
 use Rattle.fixed.specs.declared.Fixed.{Fixed}
 use Rattle.stems.specs.declared.edge.Hint.{Hint}
 use Rattle.stems.specs.Edge.{max_hints, no_hint}
 use Rattle.stems.specs.Lists.{height_in, held, Whole}
 use Rattle.hintmap.specs.declared.map.HintMap.{HintMap}
 use Rattle.hintmap.specs.declared.insert.Edges.{Edges}
-use Rattle.hintmap.specs.declared.insert.Outcome.{Outcome}
 use Rattle.hintmap.specs.Map.{view, put_at, place_among, reach, map_of}
 use Rattle.hintmap.specs.Insert.{first_edge, placed_by, outcome_of, insert_in}
 
@@ -51,7 +50,7 @@ PlacedBy ls n s₀ s e r = (ts : List ℕ) → r ≡ placed_by (not (first_edge 
 abbrev pub Places : List ℤ → ℕ → Fixed → ℕ → Type 0
 Places ls n h r = (ts : List ℕ) → r ≡ place_among (held ls ts n) h
 
-abbrev pub Comes : List ℤ → List ℕ → ℕ → Edges → Outcome → Type 0
+abbrev pub Comes : List ℤ → List ℕ → ℕ → Edges → Option (ℕ × Edges) → Type 0
 Comes ls ts n e r = (s : Fixed) (initial : HintMap) → r ≡ outcome_of (map_in ls ts n s) e initial false
 
 -- edges put at a place among the first n

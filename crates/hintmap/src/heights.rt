@@ -11,25 +11,24 @@ fn reached(lines: &[i32; LINES], len: usize, height: Fixed) -> usize
     requires { (0 < len) × (len ≤ max_hints) }
     ensures { (result < len) × Reaches lines.now len height result }
 {
-    let mut i: usize = 0;
-    while i + 1 < len {
-        if !height_at(lines, i + 1).at_most(height) {
-            return i;
+    for next in 1..len {
+        if height < height_at(lines, next) {
+            return next - 1;
         }
-        i += 1;
     }
-    i
+    len - 1
 }
 
 // The same where heights rise: those at or below the height come before all others, so counting them
-// finds where they end. Heights lie in a row, and a count takes several at a time.
+// finds where they end. Heights lie in a row, and this count takes several at a time, where
+// `filter(..).count()` takes one.
 fn counted(lines: &[i32; LINES], len: usize, height: Fixed) -> usize
     requires { (0 < len) × ((len ≤ max_hints) × Rises lines.now len) }
     ensures { (result < len) × Reaches lines.now len height result }
 {
     let mut count: u32 = 0;
     for i in 1..len {
-        if height_at(lines, i).at_most(height) {
+        if height_at(lines, i) <= height {
             count += 1;
         }
     }
@@ -43,9 +42,10 @@ fn serving(lines: &[i32; LINES], len: usize, height: Fixed, in_order: bool) -> u
     ensures { (result < len) × Reaches lines.now len height result }
 {
     if in_order {
-        return counted(lines, len, height);
+        counted(lines, len, height)
+    } else {
+        reached(lines, len, height)
     }
-    reached(lines, len, height)
 }
 
 // Ports `HintMap::transform`: upward from the first edge, past each next one that is at or below the
@@ -66,7 +66,7 @@ pub fn transform(
     }
     let i = serving(lines, len, height, in_order);
     let over = height.sub(height_at(lines, i));
-    if height.less(height_at(lines, i)) {
+    if height < height_at(lines, i) {
         return over.mul(scale).add(device_at(lines, i));
     }
     over.mul(scale_at(lines, i)).add(device_at(lines, i))

@@ -13,22 +13,15 @@ use stems::{
 };
 
 // What is put in: one edge, or the two of a pair.
-#[derive(Clone, Copy)]
+#[derive(Clone, Copy, Debug, PartialEq, Eq)]
 pub enum Edges {
     One(Hint),
     Two(Hint, Hint),
 }
 
-// What an insertion comes to: the edges enter at a place, as they are then placed, or they are
-// dropped.
-#[derive(Clone, Copy)]
-pub enum Outcome {
-    Enters(usize, Edges),
-    Dropped,
-}
-
 impl Edges {
     // From `insert`: the edges that a stem has, by its shape.
+    #[tactic(auto, unfolding(crate::specs::Insert::chosen))]
     pub fn choose(shape: Shape, bottom: Hint, top: Hint) -> Edges
         ensures { result ≡ chosen shape bottom top }
     {
@@ -58,57 +51,39 @@ impl Edges {
     }
 
     // Whether a pair is in order, and there is room.
+    #[tactic(auto, using(crate::proofs::Enter::not_less), unfolding(crate::specs::Insert::may_enter))]
     fn may_enter(self, len: usize) -> bool
         ensures { result ≡ may_enter len self }
     {
         match self {
             Edges::One(_) => len < MAX_HINTS,
-            Edges::Two(b, t) => {
-                if t.cs_coord.less(b.cs_coord) {
-                    return false;
-                }
-                len < LAST_HINT
-            }
+            Edges::Two(b, t) => b.cs_coord <= t.cs_coord && len < LAST_HINT,
         }
     }
 
     // Whether the edge x at the place stands in the way in character height: it is at the same
     // height, a pair would reach over it, or it is the top of a pair, into which the new edges
     // would go.
+    #[tactic(auto, unfolding(crate::specs::Insert::bars))]
     fn barred(self, x: Hint) -> bool
         ensures { result ≡ bars x self }
     {
         match self {
-            Edges::One(e) => {
-                if x.cs_coord.same(e.cs_coord) {
-                    return true;
-                }
-                x.is_pair_top()
-            }
+            Edges::One(e) => x.cs_coord == e.cs_coord || x.is_pair_top(),
             Edges::Two(b, t) => {
-                if x.cs_coord.same(b.cs_coord) {
-                    return true;
-                }
-                if x.is_pair_top() {
-                    return true;
-                }
-                x.cs_coord.at_most(t.cs_coord)
+                x.cs_coord == b.cs_coord || x.is_pair_top() || x.cs_coord <= t.cs_coord
             }
         }
     }
 
     // Whether either edge lies above x on the device.
+    #[tactic(auto, unfolding(crate::specs::Insert::too_high))]
     fn too_high(self, x: Hint) -> bool
         ensures { result ≡ too_high x self }
     {
         match self {
-            Edges::One(e) => x.ds_coord.less(e.ds_coord),
-            Edges::Two(b, t) => {
-                if x.ds_coord.less(t.ds_coord) {
-                    return true;
-                }
-                x.ds_coord.less(b.ds_coord)
-            }
+            Edges::One(e) => x.ds_coord < e.ds_coord,
+            Edges::Two(b, t) => x.ds_coord < t.ds_coord || x.ds_coord < b.ds_coord,
         }
     }
 
@@ -116,8 +91,7 @@ impl Edges {
     fn under(self, x: Hint) -> bool
         ensures { result ≡ under x self }
     {
-        let f = self.first();
-        f.ds_coord.less(x.ds_coord)
+        self.first().ds_coord < x.ds_coord
     }
 
     // The height that the initial map is asked for.
@@ -149,8 +123,7 @@ impl Edges {
         requires { len ≤ max_hints }
         ensures { PlacedBy initial.now len base scale self result }
     {
-        let f = self.first();
-        if f.is_locked() {
+        if self.first().is_locked() {
             return self;
         }
         self.around(transform(initial, len, base, self.middle(), false), scale)
@@ -164,42 +137,34 @@ fn place_of(lines: &[i32; LINES], len: usize, height: Fixed) -> usize
     requires { (len ≤ max_hints) × Rises lines.now len }
     ensures { (result ≤ len) × Places lines.now len height result }
 {
-    let mut at = len;
-    while 0 < at {
-        if height_at(lines, at - 1).less(height) {
-            return at;
+    for at in (0..len).rev() {
+        if height_at(lines, at) < height {
+            return at + 1;
         }
-        at -= 1;
     }
     0
 }
 
-// From `insert`: the tests are of the edge at the place and of the one before it.
-fn decide(lines: &[i32; LINES], tags: &[u8; TAGS], len: usize, e: Edges) -> Outcome
+// From `insert`: the edges enter at a place, as they are then placed, or they are dropped. The tests
+// are of the edge at the place and of the one before it.
+fn decide(lines: &[i32; LINES], tags: &[u8; TAGS], len: usize, e: Edges) -> Option<(usize, Edges)>
     requires { (len ≤ max_hints) × Rises lines.now len }
     ensures { Comes lines.now tags.now len e result }
 {
     if !e.may_enter(len) {
-        return Outcome::Dropped;
+        return None;
     }
-    let f = e.first();
-    let at = place_of(lines, len, f.cs_coord);
-    if 0 < at {
-        let before = edge_at(lines, tags, at - 1);
-        if e.under(before) {
-            return Outcome::Dropped;
-        }
+    let at = place_of(lines, len, e.first().cs_coord);
+    if 0 < at && e.under(edge_at(lines, tags, at - 1)) {
+        return None;
     }
     if at < len {
         let x = edge_at(lines, tags, at);
-        if e.barred(x) {
-            return Outcome::Dropped;
-        }
-        if e.too_high(x) {
-            return Outcome::Dropped;
+        if e.barred(x) || e.too_high(x) {
+            return None;
         }
     }
-    Outcome::Enters(at, e)
+    Some((at, e))
 }
 
 // From `insert`: edges are put at a place, and those from there on go up. Gives the new length.
@@ -209,22 +174,17 @@ fn put(lines: &mut [i32; LINES], tags: &mut [u8; TAGS], len: usize, at: usize, e
         tags.new }
 {
     let n = e.count();
-    let mut k = len;
-    while at < k {
-        k -= 1;
+    for k in (at..len).rev() {
         copy_edge(lines, tags, k, k + n);
     }
     match e {
-        Edges::One(x) => {
-            put_edge(lines, tags, at, x);
-            len + n
-        }
+        Edges::One(x) => put_edge(lines, tags, at, x),
         Edges::Two(b, t) => {
             put_edge(lines, tags, at, b);
             put_edge(lines, tags, at + 1, t);
-            len + n
         }
     }
+    len + n
 }
 
 // Ports `HintMap::insert`, into the lists of a map: edges as they are placed are put in, or dropped.
@@ -235,7 +195,7 @@ pub fn insert_edges(lines: &mut [i32; LINES], tags: &mut [u8; TAGS], len: usize,
         tags.new }
 {
     match decide(lines, tags, len, e) {
-        Outcome::Enters(at, placed) => put(lines, tags, len, at, placed),
-        Outcome::Dropped => len,
+        Some((at, placed)) => put(lines, tags, len, at, placed),
+        None => len,
     }
 }

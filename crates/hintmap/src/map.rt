@@ -8,7 +8,7 @@ ghost use Rattle.hintmap.specs.Lent.{map_in};
 use fixed::Fixed;
 use stems::{Hint, LINES, MAX_HINTS, TAGS, edge_at, put_edge};
 
-#[derive(Clone, Copy)]
+#[derive(Clone, Copy, Debug, PartialEq, Eq)]
 pub struct HintMap {
     pub edges: [Hint; MAX_HINTS],
     pub len: usize,
@@ -21,9 +21,8 @@ impl HintMap {
     pub fn new(scale: Fixed) -> HintMap
         ensures { result ≡ new_map scale }
     {
-        let none = Hint::none();
         HintMap {
-            edges: [none; MAX_HINTS],
+            edges: [Hint::none(); MAX_HINTS],
             len: 0,
             is_valid: false,
             scale,
@@ -31,21 +30,19 @@ impl HintMap {
     }
 
     // From `hint_mask`: the map is to be built anew, and keeps its edges until then.
-    pub fn invalidate(self) -> HintMap
+    pub fn invalidate(mut self) -> HintMap
         ensures { result ≡ invalid_map self }
     {
-        let mut kept = self;
-        kept.is_valid = false;
-        kept
+        self.is_valid = false;
+        self
     }
 
     // From `build`: the map is built.
-    pub fn validate(self) -> HintMap
+    pub fn validate(mut self) -> HintMap
         ensures { result ≡ valid_map self }
     {
-        let mut built = self;
-        built.is_valid = true;
-        built
+        self.is_valid = true;
+        self
     }
 
     // The edges as numbers, at every place of lists.
@@ -53,9 +50,8 @@ impl HintMap {
         requires { Whole lines.old tags.old }
         ensures { Listed self.edges lines.new tags.new }
     {
-        for i in 0..MAX_HINTS {
-            let edge = self.edges[i];
-            put_edge(lines, tags, i, edge);
+        for (i, edge) in self.edges.iter().enumerate() {
+            put_edge(lines, tags, i, *edge);
         }
     }
 

@@ -2,7 +2,7 @@
 use crate::hints::Hints;
 use pen::Pen;
 
-#[derive(Clone, Copy)]
+#[derive(Clone, Copy, Debug, PartialEq, Eq)]
 pub struct Drawing {
     pub hints: Hints,
     pub pen: Pen,

@@ -8,7 +8,7 @@ use hintmap::HintMap;
 use stems::{HintMask, MAX_HINTS, StemHint, Stems};
 use zones::HintState;
 
-#[derive(Clone, Copy)]
+#[derive(Clone, Copy, Debug, PartialEq, Eq)]
 pub struct Hints {
     pub stems: Stems,
     pub mask: HintMask,
@@ -34,14 +34,12 @@ impl Hints {
     pub fn new(scale: Fixed) -> Hints
         ensures { result ≡ new_hints scale }
     {
-        let none = declared(Fixed::ZERO, Fixed::ZERO);
-        let stems = Stems {
-            list: [none; MAX_HINTS],
-            count: 0,
-        };
         let map = HintMap::new(scale);
         Hints {
-            stems,
+            stems: Stems {
+                list: [declared(Fixed::ZERO, Fixed::ZERO); MAX_HINTS],
+                count: 0,
+            },
             mask: HintMask::all(),
             initial: map,
             map,
@@ -49,88 +47,74 @@ impl Hints {
     }
 
     // Ports `add_stem`: a 97th stem, and one declared while the map is valid, is ignored.
-    pub fn with_stem(self, min: Fixed, max: Fixed) -> Hints
+    #[tactic(auto, unfolding(crate::specs::Hints::with_stem))]
+    pub fn with_stem(mut self, min: Fixed, max: Fixed) -> Hints
         ensures { result ≡ with_stem min max self }
     {
-        let map = self.map;
-        if map.is_valid {
-            return self;
-        }
-        let mut stems = self.stems;
-        let count = stems.count;
-        if count < MAX_HINTS {
-            stems.list[count] = declared(min, max);
-            stems.count = count + 1;
-            let mut hints = self;
-            hints.stems = stems;
-            return hints;
+        let count = self.stems.count;
+        if !self.map.is_valid && count < MAX_HINTS {
+            self.stems.list[count] = declared(min, max);
+            self.stems.count = count + 1;
         }
         self
     }
 
     // Ports `hint_mask`: a mask that differs makes the map invalid.
+    #[tactic(auto, unfolding(crate::specs::Hints::with_mask))]
     pub fn with_mask(self, mask: HintMask) -> Hints
         ensures { result ≡ with_mask mask self }
     {
-        let present = self.mask;
-        if mask.same(present) {
+        if mask.same(self.mask) {
             return self;
         }
-        let map = self.map;
-        let invalid = map.invalidate();
-        let mut hints = self;
-        hints.mask = mask;
-        hints.map = invalid;
-        hints
+        Hints {
+            mask,
+            map: self.map.invalidate(),
+            ..self
+        }
     }
 
     // From `build`: the initial map is made first, where it is not valid.
+    #[tactic(auto, unfolding(crate::specs::Hints::with_initial))]
     fn with_initial(self, state: HintState) -> Hints
         ensures { result ≡ with_initial state self }
     {
-        let initial = self.initial;
-        if initial.is_valid {
+        if self.initial.is_valid {
             return self;
         }
-        let stems = self.stems;
-        let made = build_initial(state, stems);
-        let mut hints = self;
-        hints.initial = made;
-        hints
+        Hints {
+            initial: build_initial(state, self.stems),
+            ..self
+        }
     }
 
     // Ports `counter_mask`: a map that is thrown away, for the heights that it saves.
+    #[tactic(auto, unfolding(crate::specs::Hints::countered))]
     pub fn counter(self, state: HintState, mask: HintMask) -> Hints
         ensures { result ≡ countered state mask self }
     {
         let based = self.with_initial(state);
-        let stems = based.stems;
-        let initial = based.initial;
-        let thrown = build_map(state, mask, stems, initial);
-        let heights = thrown.stems;
-        let mut kept = based;
-        kept.stems = heights;
-        kept
+        let thrown = build_map(state, mask, based.stems, based.initial);
+        Hints {
+            stems: thrown.stems,
+            ..based
+        }
     }
 
     // From `hint`: the map is built from the present mask, where it is not valid.
+    #[tactic(auto, unfolding(crate::specs::Hints::ready_of))]
     pub fn ready(self, state: HintState) -> Hints
         ensures { result ≡ ready_of state self }
     {
-        let map = self.map;
-        if map.is_valid {
+        if self.map.is_valid {
             return self;
         }
         let based = self.with_initial(state);
-        let stems = based.stems;
-        let initial = based.initial;
-        let mask = based.mask;
-        let built = build_map(state, mask, stems, initial);
-        let after = built.stems;
-        let made = built.map;
-        let mut hints = based;
-        hints.stems = after;
-        hints.map = made;
-        hints
+        let built = build_map(state, based.mask, based.stems, based.initial);
+        Hints {
+            stems: built.stems,
+            map: built.map,
+            ..based
+        }
     }
 }

@@ -5,13 +5,14 @@ ghost use Rattle.hintmap.specs.Lent.{Rising};
 ghost use Rattle.pen.specs.Drawn.{Drew};
 ghost use Rattle.hints.specs.Path.{stroke_by, PlacesBy, DrawsBy};
 
-use fixed::{Fixed, least};
+use fixed::Fixed;
 use hintmap::{HintMap, transform};
 use pen::{Drawn, Path, Pen, Point};
 use stems::{LINES, MAX_HINTS, TAGS};
 
 // Ports `hint` and `scale`: a character point on the device, by the lines of a map and its own
 // scale. `in_order`: whether its heights are known to rise.
+#[tactic(auto, unfolding(crate::specs::Hints::device_point))]
 fn place(
     lines: &[i32; LINES],
     len: usize,
@@ -23,11 +24,9 @@ fn place(
     requires { (len ≤ max_hints) × Rising in_order lines.now len }
     ensures { PlacesBy lines.now len base scale at result }
 {
-    let x = at.x;
-    let y = at.y;
     Point {
-        x: x.mul(scale).trunc(),
-        y: transform(lines, len, base, y, in_order).trunc(),
+        x: at.x.mul(scale).trunc(),
+        y: transform(lines, len, base, at.y, in_order).trunc(),
     }
 }
 
@@ -66,6 +65,6 @@ pub fn draw(map: HintMap, scale: Fixed, pen: Pen, path: Path, out: &mut [i32]) -
     let mut lines = [0i32; LINES];
     let mut tags = [0u8; TAGS];
     map.list(&mut lines, &mut tags);
-    let len = least(map.len, MAX_HINTS);
+    let len = map.len.min(MAX_HINTS);
     draw_by_lines(&lines, len, map.scale, scale, pen, path, out, false)
 }

@@ -1,21 +1,23 @@
 -- Laws of the measure: how it stands before a glyph, a glyph more, and where it ends. Assumes
 -- nothing.
 use mathlib.Core.Path.{◌≡◌, refl, sym, ap, ◌∙◌}
-use mathlib.Core.Bool.{true, false}
+use mathlib.Core.Bool.{true, false, not}
 use mathlib.Core.List.{List, [], ◌∷◌, ◌++◌, map}
 use Prim.Native.Nat.{ℕ, ◌+◌, ◌≤◌, ◌<◌}
 use native.Mathlib.Omega.{arith}
 use lib.Dec.{ltb}
 use lib.IntN.{ℤ}
 use lib.ListN.{length, take, drop}
-use borrow.Author.Tests.{lt-ltb, le-ltb}
+use borrow.Author.Tests.{lt-ltb, le-ltb, ne_eqb}
 use Rattle.fixed.specs.Integers.{bits_of}
 use Rattle.words.specs.Rows.{Row, first_or}
-use Rattle.words.specs.Answers.{refuses}
+use Rattle.words.specs.declared.answer.Refusal.{Refusal}
+use Rattle.words.specs.Answers.{refuses, number_of}
+use Rattle.words.proofs.Answers.{numbered}
 use Rattle.labels.specs.declared.measure.Taken.{Taken}
-use Rattle.labels.specs.declared.label_answer.LabelAnswer.{LabelAnswer}
-use Rattle.labels.specs.declared.label_answer.LabelAnswer.TheVariants.{Written, NoRoom}
-use Rattle.labels.specs.Answers.{in_glyph}
+use Rattle.labels.specs.declared.label_answer.LabelRefusal.TheVariants.{NoRoom}
+use Rattle.labels.specs.Answers.{LabelAnswer, in_glyph}
+use Rattle.std.proofs.Common.{Ok, Err}
 use Rattle.labels.specs.Glyphs.{Glyph, glyph, glyphs_of, fault_of}
 use Rattle.labels.specs.Labels.{header_of, glyph_rows, room_rows}
 use Rattle.labels.specs.Measured.{size_of, sum_from, taken_by, measured_of}
@@ -34,7 +36,7 @@ module _ (ls words : List ℤ) (masks : List ℕ) (room : ℕ) where
 
   -- what the rows of the room answer
   abbrev by_room : List (Row LabelAnswer) → LabelAnswer
-  by_room rs = first_or (Written whole) rs
+  by_room rs = first_or (Ok whole) rs
 
   abbrev rooms : List (Row LabelAnswer)
   rooms = room_rows room 0 header (map size_of all)
@@ -83,13 +85,16 @@ module _ {ls words : List ℤ} {masks : List ℕ} {room : ℕ} {t : Taken} {k i 
         ap (λ (gs : List Glyph). by_room ls words masks room (glyph_rows (k + 1) gs ++ rooms ls words masks room)) first
 
     -- that has a fault
-    pub faulty : refuses (fault_of here) ≡ true →
-        measured_of (glyphs_of ls words masks) room ≡ in_glyph (k + 1) (fault_of here)
+    pub faulty : {r : Refusal} → fault_of here ≡ Err r →
+        measured_of (glyphs_of ls words masks) room ≡ in_glyph (k + 1) (Err r)
     unfolding first_or glyph_rows
-    faulty q = rows ∙ rw q
+    faulty {r} q =
+        let n : number_of (Err r) ≡ 0 → ⊥ = λ z. absurd (omega (arith, z, numbered r)) in
+        let s : refuses (Err r) ≡ true = ap not (ne_eqb (number_of (Err r)) 0 n) in
+        rows ∙ rw (q, s)
 
     -- and at one that has none
-    pub counting : refuses (fault_of here) ≡ false → size_of here ≤ 21474836480 →
+    pub counting : fault_of here ≡ Ok tt → size_of here ≤ 21474836480 →
         Measuring ls words masks room (taken_by t (size_of here) room) (k + 1) (i + 2) (word + n) (byte + b)
     unfolding first_or glyph_rows sum_from
     counting q l =
@@ -100,7 +105,7 @@ module _ {ls words : List ℤ} {masks : List ℕ} {room : ℕ} {t : Taken} {k i 
               m.fits ∙
               ap (λ (gs : List Glyph). by_room ls words masks room (room_rows room t.glyph t.words (map size_of gs)))
               first ∙
-              room-step (Written (whole ls words masks room)) room t (size_of here) (map size_of behind);
+              room-step (Ok (whole ls words masks room)) room t (size_of here) (map size_of behind);
           sum = λ r. summed (fitted-before room t (size_of here) r);
           most = taken-most room 21474836480 t (size_of here) l m.most;
           few = (omega (arith, taken-glyph room t (size_of here), m.few.0), omega (arith, m.few.1));
@@ -125,13 +130,13 @@ module _ {ls words : List ℤ} {masks : List ℕ} {room : ℕ} {t : Taken} {k i 
         ap (λ (gs : List Glyph). by_room ls words masks room (room_rows room t.glyph t.words (map size_of gs)))
         (none_left m.walks h)
 
-    pub full : room < t.words → measured_of (glyphs_of ls words masks) room ≡ NoRoom t.glyph
-    full q = left ∙ past_room (Written (whole ls words masks room)) room t.glyph t.words [] (lt-ltb _ _ q)
+    pub full : room < t.words → measured_of (glyphs_of ls words masks) room ≡ Err (NoRoom t.glyph)
+    full q = left ∙ past_room (Ok (whole ls words masks room)) room t.glyph t.words [] (lt-ltb _ _ q)
 
-    pub measured : t.words ≤ room → measured_of (glyphs_of ls words masks) room ≡ Written t.words
+    pub measured : t.words ≤ room → measured_of (glyphs_of ls words masks) room ≡ Ok t.words
     unfolding sum_from
     measured q =
         let r = le-ltb room t.words q in
-        left ∙ room-end (Written (whole ls words masks room)) room t.glyph t.words r ∙
-        ap Written (sym (m.sum r) ∙ ap (λ (gs : List Glyph). sum_from t.words (map size_of gs))
-        (none_left m.walks h))
+        left ∙ room-end (Ok (whole ls words masks room)) room t.glyph t.words r ∙
+        ap (λ (n : ℕ). let a : LabelAnswer = Ok n in a)
+        (sym (m.sum r) ∙ ap (λ (gs : List Glyph). sum_from t.words (map size_of gs)) (none_left m.walks h))

@@ -10,8 +10,9 @@ use lib.ListN.{length, length-append}
 use borrow.Author.Tests.{ltb-false}
 use Rattle.words.specs.Rows.{first_or}
 use Rattle.labels.specs.declared.measure.Taken.{Taken}
-use Rattle.labels.specs.declared.label_answer.LabelAnswer.{LabelAnswer}
-use Rattle.labels.specs.declared.label_answer.LabelAnswer.TheVariants.{NoRoom}
+use Rattle.labels.specs.declared.label_answer.LabelRefusal.TheVariants.{NoRoom}
+use Rattle.labels.specs.Answers.{LabelAnswer}
+use Rattle.std.proofs.Common.{Err}
 use Rattle.labels.specs.Labels.{room_rows, places_from, joined, header_of, label_words}
 use Rattle.labels.specs.Measured.{sum_from, taken_if, taken_by}
 use Rattle.labels.proofs.Laying.{places-length}
@@ -19,7 +20,7 @@ use Rattle.labels.proofs.Laying.{places-length}
 module _ (ok : LabelAnswer) (room : ℕ) where
   -- where the words are past the room already, the glyph is the last so far
   pub past_room : (k words : ℕ) (ns : List ℕ) → ltb room words ≡ true →
-      first_or ok (room_rows room k words ns) ≡ NoRoom k
+      first_or ok (room_rows room k words ns) ≡ Err (NoRoom k)
   unfolding first_or room_rows
   past_room k words [] e = rw e
   past_room k words (n ∷ ns) e = rw e
@@ -32,7 +33,7 @@ module _ (ok : LabelAnswer) (room : ℕ) where
   room-step t n ns = by (ltb room t.words) refl
     where
       by : (b : Bool) → ltb room t.words ≡ b →
-          cond b (NoRoom t.glyph) (first_or ok (room_rows room (t.glyph + 1) (t.words + n) ns)) ≡
+          cond b (Err (NoRoom t.glyph)) (first_or ok (room_rows room (t.glyph + 1) (t.words + n) ns)) ≡
           first_or ok (room_rows room (taken_if b t n).glyph (taken_if b t n).words ns)
       by true e = sym (past_room t.glyph t.words ns e)
       by false e = refl

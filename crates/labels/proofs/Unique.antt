@@ -6,11 +6,11 @@ use borrow.Fn.Kinds.{ended_of}
 use borrow.Fn.World.{ArgsD, ResD}
 use contract.Lifetimes.{Lfts}
 use denote.Triple.Clauses.{AtExit}
-use Rattle.labels.specs.declared.label_answer.LabelAnswer.{LabelAnswer}
-use Rattle.labels.proofs.label_answer.LabelAnswer.code.Reads as code_Reads
-use Rattle.labels.proofs.label_answer.LabelAnswer.glyph.Reads as glyph-reads
-use Rattle.labels.proofs.label_answer.LabelAnswer.place.Reads as place-reads
-use Rattle.labels.proofs.label_answer.LabelAnswer.written.Reads as written-reads
+use Rattle.labels.specs.Answers.{LabelAnswer}
+use Rattle.labels.proofs.label_answer.code.Reads as code_Reads
+use Rattle.labels.proofs.label_answer.glyph.Reads as glyph-reads
+use Rattle.labels.proofs.label_answer.place.Reads as place-reads
+use Rattle.labels.proofs.label_answer.written.Reads as written-reads
 use Rattle.labels.specs.contracts.labelling.run_labels as run-labels
 use Rattle.labels.proofs.labelling.run_labels.Kinds as run-labels-kinds
 use Rattle.labels.proofs.labelling.run_labels.Reads as run-labels-reads

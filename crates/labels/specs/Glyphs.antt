@@ -5,9 +5,8 @@ use Rattle.std.specs.Prelude.{length, take, drop}
 use Rattle.fixed.specs.Integers.{bits_of}
 use Rattle.zones.specs.declared.state.HintState.{HintState}
 use Rattle.hints.specs.Calls.{new_drawing}
-use Rattle.words.specs.declared.answer.Answer.{Answer}
 use Rattle.words.specs.Words.{given_word}
-use Rattle.words.specs.Answers.{first_of}
+use Rattle.words.specs.Answers.{Answer, first_of}
 use Rattle.commands.specs.Commands.{CommandAt, commands_of}
 use Rattle.commands.specs.Faults.{command_rows}
 use Rattle.run.specs.Room.{words_along}

@@ -1,7 +1,7 @@
 -- A label run (request 5): up to 64 glyphs under one set of parameters, and one result. Refusals in
 -- their order, with no word changed; or the result at the start of the output, whose rest stands.
 use Rattle.std.specs.Prelude.{◌≡◌, Bool, true, false, not, List, [], ◌∷◌, ◌++◌, map, ℕ, min, ◌+◌, ◌*◌, ltb, ℤ, pos}
-use Rattle.std.specs.Prelude.{length}
+use Rattle.std.specs.Prelude.{length, Ok, Err}
 use Rattle.fixed.specs.declared.Fixed.{Fixed}
 use Rattle.fixed.specs.Fixed.{from_bits, less_f}
 use Rattle.zones.specs.declared.state.HintParams.{HintParams}
@@ -9,10 +9,8 @@ use Rattle.zones.specs.State.{counts_fit, state_of}
 use Rattle.pen.specs.Records.{written}
 use Rattle.words.specs.Rows.{Row, row, first_or}
 use Rattle.words.specs.Answers.{refuses}
-use Rattle.labels.specs.declared.label_answer.LabelAnswer.{LabelAnswer}
-use Rattle.labels.specs.declared.label_answer.LabelAnswer.TheVariants.{Written, RunCount, BadScale, BadBlues}
-use Rattle.labels.specs.declared.label_answer.LabelAnswer.TheVariants.{NoRoom}
-use Rattle.labels.specs.Answers.{label_refuses, in_glyph}
+use Rattle.labels.specs.declared.label_answer.LabelRefusal.TheVariants.{RunCount, BadScale, BadBlues, NoRoom}
+use Rattle.labels.specs.Answers.{LabelAnswer, label_refuses, in_glyph}
 use Rattle.labels.specs.Glyphs.{Glyph, glyphs_of, miscounted, fault_of, records_of}
 
 -- what is given
@@ -56,8 +54,8 @@ label_words wss = pos 1 ∷ pos (length wss) ∷ places_from (header_of (length 
 -- the scale, then the counts, as a drawing is opened without a script
 unfoldable pub open_rows : Fixed → HintParams → List (Row LabelAnswer)
 open_rows scale p =
-    row (less_f scale (from_bits (pos 1))) BadScale ∷
-    row (not (counts_fit p)) BadBlues ∷
+    row (less_f scale (from_bits (pos 1))) (Err BadScale) ∷
+    row (not (counts_fit p)) (Err BadBlues) ∷
     []
 
 -- the first faulty glyph from glyph k on, in it the first faulty command
@@ -67,8 +65,8 @@ glyph_rows k (g ∷ gs) = row (refuses (fault_of g)) (in_glyph k (fault_of g)) �
 
 -- the first glyph, behind glyph k and so many words, whose records end past the room
 unfoldable pub room_rows : ℕ → ℕ → ℕ → List ℕ → List (Row LabelAnswer)
-room_rows room k words [] = row (ltb room words) (NoRoom k) ∷ []
-room_rows room k words (n ∷ ns) = row (ltb room words) (NoRoom k) ∷ room_rows room (k + 1) (words + n) ns
+room_rows room k words [] = row (ltb room words) (Err (NoRoom k)) ∷ []
+room_rows room k words (n ∷ ns) = row (ltb room words) (Err (NoRoom k)) ∷ room_rows room (k + 1) (words + n) ns
 
 -- an output of more words counts as 2^31 − 1 long, so that every offset and length is a word
 abbrev pub room_in : List ℤ → ℕ
@@ -77,12 +75,12 @@ room_in out = min (length out) 2147483647
 -- all tests, in request 5's order
 unfoldable pub label_rows : Label → ℕ → List (Row LabelAnswer)
 label_rows l room =
-    row (miscounted l.lengths (length l.commands) (length l.masks)) RunCount ∷
+    row (miscounted l.lengths (length l.commands) (length l.masks)) (Err RunCount) ∷
     (open_rows l.scale l.params ++ (glyph_rows 1 (glyphs_in l) ++
     room_rows room 0 (header_of (length (glyphs_in l))) (map length (records_in l))))
 
 unfoldable pub label_answer : Label → ℕ → LabelAnswer
-label_answer l room = first_or (Written (length (label_words (records_in l)))) (label_rows l room)
+label_answer l room = first_or (Ok (length (label_words (records_in l)))) (label_rows l room)
 
 -- ---- the answer, and the output with it
 pub record LabelResult : Type 0 where

@@ -1,18 +1,16 @@
 -- What is known of a label before a word is written (request 5): the first fault of each glyph, and
 -- how many words its records have.
-use Rattle.std.specs.Prelude.{◌≡◌, Bool, true, false, cond, List, [], ◌∷◌, ◌++◌, map, ℕ, ◌+◌, ◌≤◌, ◌<◌, ltb, ℤ, pos}
-use Rattle.std.specs.Prelude.{length}
+use Rattle.std.specs.Prelude.{◌≡◌, Bool, true, false, List, [], ◌∷◌, ◌++◌, map, ℕ, ◌+◌, ◌≤◌, ◌<◌, ltb, ℤ, pos}
+use Rattle.std.specs.Prelude.{length, Result, Ok}
+use Rattle.std.specs.Result.{result_and}
 use Rattle.zones.specs.declared.state.HintState.{HintState}
 use Rattle.pen.specs.Counting.{new_trail}
-use Rattle.words.specs.declared.answer.Answer.TheVariants.{Ok}
 use Rattle.words.specs.Bytes.{placed}
 use Rattle.words.specs.Rows.{first_or}
-use Rattle.words.specs.Answers.{refuses}
+use Rattle.words.specs.declared.answer.Refusal.{Refusal}
 use Rattle.run.specs.Counting.{count_along}
-use Rattle.labels.specs.declared.survey.Surveyed.{Surveyed}
 use Rattle.labels.specs.declared.measure.Taken.{Taken}
-use Rattle.labels.specs.declared.label_answer.LabelAnswer.{LabelAnswer}
-use Rattle.labels.specs.declared.label_answer.LabelAnswer.TheVariants.{Written}
+use Rattle.labels.specs.Answers.{LabelAnswer}
 use Rattle.labels.specs.Glyphs.{Glyph, glyphs_of, miscounted, fault_of, calls_in, records_of}
 use Rattle.labels.specs.Labels.{header_of, glyph_rows, room_rows}
 
@@ -20,9 +18,9 @@ use Rattle.labels.specs.Labels.{header_of, glyph_rows, room_rows}
 unfoldable pub size_of : Glyph → ℕ
 size_of g = count_along new_trail (calls_in g)
 
--- a faulty glyph is not counted
-unfoldable pub survey_of : Glyph → Surveyed
-survey_of g = record { answer = fault_of g; words = cond (refuses (fault_of g)) 0 (size_of g) }
+-- the first fault, or else those words
+unfoldable pub survey_of : Glyph → Result ℕ Refusal
+survey_of g = result_and (fault_of g) (Ok (size_of g))
 
 -- the sum of some counts behind others
 unfoldable pub sum_from : ℕ → List ℕ → ℕ
@@ -32,7 +30,7 @@ sum_from n (m ∷ ms) = sum_from (n + m) ms
 -- no glyph has a fault
 abbrev pub Faultless : List Glyph → Type 0
 Faultless [] = Unit {0}
-Faultless (g ∷ gs) = (fault_of g ≡ Ok) × Faultless gs
+Faultless (g ∷ gs) = (fault_of g ≡ Ok tt) × Faultless gs
 
 -- one glyph more behind those before it, if they fit
 abbrev pub taken_if : Bool → Taken → ℕ → Taken
@@ -45,14 +43,14 @@ taken_by t n room = taken_if (ltb room t.words) t n
 -- the tests of glyphs and room; where none holds, the words of the result
 unfoldable pub measured_of : List Glyph → ℕ → LabelAnswer
 measured_of gs room =
-    first_or (Written (sum_from (header_of (length gs)) (map size_of gs)))
+    first_or (Ok (sum_from (header_of (length gs)) (map size_of gs)))
     (glyph_rows 1 gs ++ room_rows room 0 (header_of (length gs)) (map size_of gs))
 
 -- ---- what the tests leave
 -- a glyph without a fault, whose records fit behind a word and behind their place in the header
 pub record Settable (g : Glyph) (slot next room : ℕ) : Type 0 where
   pub short : length g.words < 2147483648
-  pub faultless : fault_of g ≡ Ok
+  pub faultless : fault_of g ≡ Ok tt
   pub before : slot + 2 ≤ next
   pub fits : next + size_of g ≤ room
   pub word : next + size_of g < 2147483648

@@ -9,9 +9,6 @@ use fixed::bits_of;
 // Two lengths a glyph.
 const MAX_LENGTHS: usize = 128;
 
-// 2^31, from which on 32 bits are negative.
-const NEGATIVE: usize = 2147483648;
-
 // A length as a count.
 pub(crate) fn size_at(lengths: &[i32], i: usize) -> usize
     requires { i < length lengths.now }
@@ -24,12 +21,7 @@ pub(crate) fn size_at(lengths: &[i32], i: usize) -> usize
 fn any_negative(lengths: &[i32]) -> bool
     ensures { result ≡ any_negative lengths.now }
 {
-    for i in 0..lengths.len() {
-        if NEGATIVE <= size_at(lengths, i) {
-            return true;
-        }
-    }
-    false
+    lengths.iter().any(|length| *length < 0)
 }
 
 // The sum of every other length, from `first` on.
@@ -38,28 +30,19 @@ fn sum_from(lengths: &[i32], first: usize) -> usize
     ensures { result ≡ total (every_other (drop first lengths.now)) }
 {
     let mut sum = 0;
-    let mut at = first;
-    while at < lengths.len() {
-        sum = sum + size_at(lengths, at);
-        at = at + 2;
+    for i in (first..lengths.len()).step_by(2) {
+        sum += size_at(lengths, i);
     }
     sum
 }
 
+#[tactic(auto, unfolding(crate::specs::Glyphs::miscounted))]
 pub(crate) fn are_miscounted(lengths: &[i32], words: usize, bytes: usize) -> bool
     ensures { result ≡ miscounted lengths.now words bytes }
 {
-    if MAX_LENGTHS < lengths.len() {
-        return true;
-    }
-    if lengths.len() % 2 == 1 {
-        return true;
-    }
-    if any_negative(lengths) {
-        return true;
-    }
-    if sum_from(lengths, 0) != words {
-        return true;
-    }
-    sum_from(lengths, 1) != bytes
+    MAX_LENGTHS < lengths.len()
+        || lengths.len() % 2 == 1
+        || any_negative(lengths)
+        || sum_from(lengths, 0) != words
+        || sum_from(lengths, 1) != bytes
 }

@@ -1,16 +1,14 @@
-// The answer to a label run, with the glyph and the place that it names and the words of the result.
-ghost use Rattle.std.specs.Prelude.{◌≡◌};
+// The answer to a label run: the words of the result, or a refusal with the glyph and the place that
+// it names.
+ghost use Rattle.std.specs.Prelude.{◌≡◌, Err};
 ghost use Rattle.labels.specs.Answers.{label_number, label_glyph, label_place, label_written, in_glyph};
 
-use words::Answer;
+use std::error::Error;
+use std::fmt;
+use words::Refusal;
 
-// The number of a fault that is a mask's.
-const BAD_MASK: u32 = 5;
-
-#[derive(Clone, Copy)]
-pub enum LabelAnswer {
-    // OK, and the words of the result.
-    Written(usize),
+#[derive(Clone, Copy, Debug, PartialEq, Eq)]
+pub enum LabelRefusal {
     RunCount,
     BadScale,
     BadBlues,
@@ -21,70 +19,103 @@ pub enum LabelAnswer {
     NoRoom(usize),
 }
 
-impl LabelAnswer {
+// The words of the result, or why there is none.
+pub type LabelAnswer = Result<usize, LabelRefusal>;
+
+impl LabelRefusal {
     pub fn code(self) -> u32
-        ensures { result ≡ label_number self }
+        ensures { result ≡ label_number (Err self) }
     {
         match self {
-            LabelAnswer::Written(_) => 0,
-            LabelAnswer::RunCount => 9,
-            LabelAnswer::BadScale => 2,
-            LabelAnswer::BadBlues => 3,
-            LabelAnswer::BadCommand(_, _) => 4,
-            LabelAnswer::BadMask(_, _) => 5,
-            LabelAnswer::NoRoom(_) => 6,
+            Self::RunCount => 9,
+            Self::BadScale => 2,
+            Self::BadBlues => 3,
+            Self::BadCommand(_, _) => 4,
+            Self::BadMask(_, _) => 5,
+            Self::NoRoom(_) => 6,
         }
     }
 
     pub fn glyph(self) -> usize
-        ensures { result ≡ label_glyph self }
+        ensures { result ≡ label_glyph (Err self) }
     {
         match self {
-            LabelAnswer::Written(_) => 0,
-            LabelAnswer::RunCount => 0,
-            LabelAnswer::BadScale => 0,
-            LabelAnswer::BadBlues => 0,
-            LabelAnswer::BadCommand(glyph, _) => glyph,
-            LabelAnswer::BadMask(glyph, _) => glyph,
-            LabelAnswer::NoRoom(glyph) => glyph,
+            Self::RunCount | Self::BadScale | Self::BadBlues => 0,
+            Self::BadCommand(glyph, _) => glyph,
+            Self::BadMask(glyph, _) => glyph,
+            Self::NoRoom(glyph) => glyph,
         }
     }
 
     pub fn place(self) -> usize
-        ensures { result ≡ label_place self }
+        ensures { result ≡ label_place (Err self) }
     {
         match self {
-            LabelAnswer::Written(_) => 0,
-            LabelAnswer::RunCount => 0,
-            LabelAnswer::BadScale => 0,
-            LabelAnswer::BadBlues => 0,
-            LabelAnswer::BadCommand(_, at) => at,
-            LabelAnswer::BadMask(_, at) => at,
-            LabelAnswer::NoRoom(_) => 0,
-        }
-    }
-
-    pub fn written(self) -> usize
-        ensures { result ≡ label_written self }
-    {
-        match self {
-            LabelAnswer::Written(words) => words,
-            LabelAnswer::RunCount => 0,
-            LabelAnswer::BadScale => 0,
-            LabelAnswer::BadBlues => 0,
-            LabelAnswer::BadCommand(_, _) => 0,
-            LabelAnswer::BadMask(_, _) => 0,
-            LabelAnswer::NoRoom(_) => 0,
+            Self::RunCount | Self::BadScale | Self::BadBlues => 0,
+            Self::BadCommand(_, at) => at,
+            Self::BadMask(_, at) => at,
+            Self::NoRoom(_) => 0,
         }
     }
 }
 
-// A fault among a glyph's commands, as the run answers it.
-pub(crate) fn in_glyph(glyph: usize, fault: Answer) -> LabelAnswer
-    ensures { result ≡ in_glyph glyph fault }
-{
-    if fault.code() == BAD_MASK {
-        return LabelAnswer::BadMask(glyph, fault.place());
+impl fmt::Display for LabelRefusal {
+    fn fmt<W: fmt::Write>(&self, f: &mut fmt::Formatter<W>) -> fmt::Result {
+        match self {
+            Self::RunCount => f.write_str("the lengths are not those of the glyphs"),
+            Self::BadScale => f.write_str("the scale is not above 0"),
+            Self::BadBlues => f.write_str("more than seven pairs"),
+            Self::BadCommand(glyph, at) => write!(f, "no command at word {at} of glyph {glyph}"),
+            Self::BadMask(glyph, at) => {
+                write!(f, "mask bytes do not fit at word {at} of glyph {glyph}")
+            }
+            Self::NoRoom(glyph) => write!(f, "no room for glyph {glyph}"),
+        }
     }
-    LabelAnswer::BadCommand(glyph, fault.place())
+}
+
+impl Error for LabelRefusal {}
+
+// The number of the answer, 0 for a result.
+pub fn code(answer: LabelAnswer) -> u32
+    ensures { result ≡ label_number answer }
+{
+    match answer {
+        Ok(_) => 0,
+        Err(refusal) => refusal.code(),
+    }
+}
+
+pub fn glyph(answer: LabelAnswer) -> usize
+    ensures { result ≡ label_glyph answer }
+{
+    match answer {
+        Ok(_) => 0,
+        Err(refusal) => refusal.glyph(),
+    }
+}
+
+pub fn place(answer: LabelAnswer) -> usize
+    ensures { result ≡ label_place answer }
+{
+    match answer {
+        Ok(_) => 0,
+        Err(refusal) => refusal.place(),
+    }
+}
+
+pub fn written(answer: LabelAnswer) -> usize
+    ensures { result ≡ label_written answer }
+{
+    answer.unwrap_or(0)
+}
+
+// A fault among a glyph's commands, as the run answers it.
+pub(crate) fn in_glyph(glyph: usize, fault: Refusal) -> LabelAnswer
+    ensures { result ≡ in_glyph glyph (Err fault) }
+{
+    match fault {
+        Refusal::BadMask(at) => Err(LabelRefusal::BadMask(glyph, at)),
+        _ => Err(LabelRefusal::BadCommand(glyph, fault.place())),
+    }
 }

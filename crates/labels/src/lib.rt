@@ -9,5 +9,5 @@ mod labelling;
 mod measure;
 mod survey;
 
-pub use label_answer::LabelAnswer;
+pub use label_answer::{LabelAnswer, LabelRefusal, code, glyph, place, written};
 pub use labelling::run_labels;

@@ -5,7 +5,7 @@ ghost use Rattle.labels.specs.Glyphs.{glyphs_of, miscounted};
 ghost use Rattle.labels.specs.Measured.{taken_by, measured_of};
 
 use crate::counts::size_at;
-use crate::label_answer::{LabelAnswer, in_glyph};
+use crate::label_answer::{LabelAnswer, LabelRefusal, in_glyph};
 use crate::survey::survey;
 
 // The words before the records that do not depend on the lengths.
@@ -21,6 +21,7 @@ pub struct Taken {
 
 impl Taken {
     // One glyph more, if those before it fit.
+    #[tactic(auto, unfolding(crate::specs::Measured::taken_by))]
     fn with(self, words: usize, room: usize) -> Taken
         requires { (self.words < 34359738368) × ((words < 34359738368) × (self.glyph < 128)) }
         ensures { result ≡ taken_by self words room }
@@ -46,26 +47,21 @@ pub(crate) fn measure(commands: &[i32], masks: &[u8], lengths: &[i32], room: usi
         words: header,
         glyph: 0,
     };
-    let mut glyph = 0;
-    let mut at = 0;
     let mut word = 0;
     let mut byte = 0;
-    while at < lengths.len() {
-        let words_end = word + size_at(lengths, at);
-        let bytes_end = byte + size_at(lengths, at + 1);
-        let seen = survey(&commands[word..words_end], &masks[byte..bytes_end]);
-        glyph = glyph + 1;
-        let fault = seen.answer;
-        if fault.code() != 0 {
-            return in_glyph(glyph, fault);
-        }
-        taken = taken.with(seen.words, room);
-        at = at + 2;
+    for glyph in 0..lengths.len() / 2 {
+        let words_end = word + size_at(lengths, 2 * glyph);
+        let bytes_end = byte + size_at(lengths, 2 * glyph + 1);
+        let words = match survey(&commands[word..words_end], &masks[byte..bytes_end]) {
+            Ok(words) => words,
+            Err(fault) => return in_glyph(glyph + 1, fault),
+        };
+        taken = taken.with(words, room);
         word = words_end;
         byte = bytes_end;
     }
     if room < taken.words {
-        return LabelAnswer::NoRoom(taken.glyph);
+        return Err(LabelRefusal::NoRoom(taken.glyph));
     }
-    LabelAnswer::Written(taken.words)
+    Ok(taken.words)
 }

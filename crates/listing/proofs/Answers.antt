@@ -3,21 +3,21 @@
 use mathlib.Core.Path.{◌≡◌, refl}
 use mathlib.Core.Bool.{Bool, true, false, cond}
 use mathlib.Core.List.{List, [], ◌∷◌, ◌++◌}
-use Prim.Native.Nat.{ℕ, ◌+◌, ◌≤◌, ◌<◌}
+use Prim.Native.Nat.{ℕ, zero, suc, ◌+◌, ◌≤◌, ◌<◌}
 use native.Mathlib.Omega.{arith}
 use lib.Dec.{leb}
 use lib.ListN.{length, take}
 use borrow.Author.Tests.{leb-true}
 use Rattle.hintmap.specs.declared.map.HintMap.{HintMap}
 use Rattle.listing.specs.declared.record.EdgeRecord.{EdgeRecord}
-use Rattle.listing.specs.declared.answer.ListAnswer.TheVariants.{Listed, ListRoom}
+use Rattle.std.specs.Prelude.{Ok, Err}
 use Rattle.listing.specs.Records.{record_at, edge_records, records_of, summary_of}
 use Rattle.listing.specs.Listing.{list_summary, list_answer, records_in}
 use Rattle.listing.proofs.Counting.{records-length, records-more}
 
 -- the summary's edges are as many as are listed
 edges_by : (t : Bool) (rs : List EdgeRecord) →
-    (list_summary (cond t (Listed (summary_of rs)) ListRoom)).edges ≡ length (cond t rs [])
+    (list_summary (cond t (Ok (summary_of rs)) (Err (record {})))).edges ≡ length (cond t rs [])
 unfolding summary_of
 edges_by true rs = refl
 edges_by false rs = refl
@@ -48,3 +48,11 @@ unfolding records_in records_of
 listed-stand m room l =
     stand-by m (leb (length (records_of m)) room) (records_of m)
     (stand-by m m.is_valid (edge_records m) (λ i h. (omega (arith, records-length m l, h), records-more m l i h)))
+
+-- so no more are listed than a map has places
+few_places : (n : ℕ) → ((i : ℕ) → i < n → i < 96) → n ≤ 96
+few_places zero f = omega arith
+few_places (suc n) f = omega (arith, f n (omega arith))
+
+pub listed_few : (m : HintMap) → length m.edges ≡ 96 → (room : ℕ) → length (records_in m room) ≤ 96
+listed_few m long room = few_places (length (records_in m room)) (λ i h. (listed-stand m room long i h).0)

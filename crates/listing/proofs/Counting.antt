@@ -2,13 +2,17 @@
 -- counted, and their summary. Assumes nothing.
 use mathlib.Core.Path.{◌≡◌, refl, sym, ap, ◌∙◌}
 use mathlib.Core.Bool.{Bool, true, false, not, cond}
-use mathlib.Core.List.{List, [], ◌∷◌, ◌++◌}
+use mathlib.Core.List.{List, [], ◌∷◌, ◌++◌, map}
 use Prim.Native.Nat.{ℕ, min, ◌+◌, ◌<◌}
 use native.Mathlib.Numerals.{add-one}
 use native.Mathlib.Omega.{arith}
 use lib.ListN.{length, take, length-map, length-take, get_or-map}
 use lib.Seq.{take-suc, get_or-take}
 use borrow.Author.Tests.{not-true, not-false}
+use Rattle.std.specs.Prelude.{count_by}
+use Rattle.std.proofs.lemmas.List.Recursion.{is_count_by}
+use Rattle.fixed.proofs.Counts.{take-least}
+use Rattle.stems.specs.declared.edge.Hint.{Hint}
 use Rattle.stems.specs.Edge.{no_hint}
 use Rattle.hintmap.specs.declared.map.HintMap.{HintMap}
 use Rattle.hintmap.specs.Map.{view}
@@ -17,10 +21,15 @@ use Rattle.listing.specs.declared.record.Counted.TheVariants.{Pairs, Ghosts, Loc
 use Rattle.listing.specs.Records.{record_of, record_at, edge_records, records_of, counts, count_of, summary_of}
 use Rattle.listing.specs.Records.{no_summary}
 
-count-append : (f : EdgeRecord → Bool) (rs ss : List EdgeRecord) → count_of f (rs ++ ss) ≡ count_of f rs + count_of f ss
+-- edges whose records pass
+counted_more : (t : Bool) (n : ℕ) → cond t 1 0 + n ≡ cond t (1 + n) n
+counted_more true n = refl
+counted_more false n = omega arith
+
+count-edges : (f : EdgeRecord → Bool) (es : List Hint) →
+    count_of f (map record_of es) ≡ count_by (λ e. f (record_of e)) es
 unfolding count_of
-count-append f [] ss = omega arith
-count-append f (r ∷ rs) ss = omega (arith, count-append f rs ss)
+count-edges f = is_count_by (λ es. count_of f (map record_of es)) _ refl (λ e es. counted_more (f (record_of e)) _)
 
 -- so many records are a map's, one for each edge
 module _ (m : HintMap) (long : length m.edges ≡ 96) where
@@ -37,12 +46,11 @@ module _ (m : HintMap) (long : length m.edges ≡ 96) where
       let e = get_or-map record_of (view m) i no_hint ∙ ap record_of (get_or-take m.len m.edges i no_hint n) in
       rw (add-one, take-suc _ i (record_of no_hint) h, e)
 
-  -- and how many are counted then
-  pub count-more : (f : EdgeRecord → Bool) (i : ℕ) → i < length (edge_records m) →
-      count_of f (take (i + 1) (edge_records m)) ≡ count_of f (take i (edge_records m)) + cond (f (record_at m i)) 1 0
-  unfolding count_of
-  count-more f i h =
-      ap (count_of f) (records-more i h) ∙ count-append f (take i (edge_records m)) (record_at m i ∷ []) ∙ omega arith
+  -- and so many are counted
+  pub count-whole : (f : EdgeRecord → Bool) →
+      count_by (λ e. f (record_of e)) (take (min m.len 96) m.edges) ≡ count_of f (edge_records m)
+  unfolding edge_records
+  count-whole f = rw (take-least m.len 96 m.edges long) (sym (count-edges f (view m)))
 
 -- the summary of a map that is not valid, and of one that is
 module _ (m : HintMap) where

@@ -6,16 +6,19 @@ use borrow.Fn.Kinds.{ended_of}
 use borrow.Fn.World.{ArgsD, ResD}
 use contract.Lifetimes.{Lfts}
 use denote.Triple.Clauses.{AtExit}
+use lib.IntN.{ℤ}
 use Rattle.stems.specs.declared.edge.Hint.{Hint}
+use Rattle.stems.specs.declared.edge.Kind.{Kind}
 use Rattle.hintmap.specs.declared.map.HintMap.{HintMap}
 use Rattle.listing.specs.declared.record.EdgeRecord.{EdgeRecord}
 use Rattle.listing.specs.declared.summary.Summary.{Summary}
-use Rattle.listing.specs.declared.answer.ListAnswer.{ListAnswer}
+use Rattle.listing.specs.Listing.{ListAnswer}
 use Rattle.listing.proofs.record.EdgeRecord.of.Reads as of-reads
 use Rattle.listing.proofs.summary.Summary.none.Reads as none_reads
+use Rattle.listing.proofs.as_words.kind_number.Reads as kind-number-reads
 use Rattle.listing.proofs.summary.summarize.Reads as summarize-reads
-use Rattle.listing.proofs.answer.ListAnswer.code.Reads as code_Reads
-use Rattle.listing.proofs.answer.ListAnswer.summary.Reads as summary-reads
+use Rattle.listing.proofs.answer.code.Reads as code_Reads
+use Rattle.listing.proofs.answer.list_summary.Reads as summary-reads
 use Rattle.listing.specs.contracts.list.list_edges as list-edges
 use Rattle.listing.specs.contracts.as_words.list_words as list-words
 use Rattle.listing.proofs.list.list_edges.Kinds as list-edges-kinds
@@ -30,6 +33,10 @@ module _ (κs : Lfts 0) where
 
   pub none-unique : (r r' : Summary) → none_reads.Post κs tt r tt → none_reads.Post κs tt r' tt → r ≡ r'
   none-unique r r' p q = p ∙ sym q
+
+  pub kind-number-unique : (k : Kind) (r r' : ℤ) → kind-number-reads.Post κs (k, tt) r (k, tt) →
+      kind-number-reads.Post κs (k, tt) r' (k, tt) → r ≡ r'
+  kind-number-unique k r r' p q = p ∙ sym q
 
   pub summarize-unique : (m : HintMap) (r r' : Summary) → summarize-reads.Post κs (m, tt) r (m, tt) →
       summarize-reads.Post κs (m, tt) r' (m, tt) → r ≡ r'

@@ -1,32 +1,34 @@
 -- A map listed into what a caller lends (request 2): its answer, and what is left in the list.
-use Rattle.std.specs.Prelude.{◌≡◌, cond, List, [], ◌∷◌, ◌++◌, ℕ, ◌/◌, leb, ℤ, pos, length}
+use Rattle.std.specs.Prelude.{◌≡◌, cond, List, [], ◌∷◌, ◌++◌, ℕ, ◌/◌, leb, ℤ, pos, length, Result, Ok, Err}
 use Rattle.stems.specs.declared.edge.Kind.{Kind}
 use Rattle.stems.specs.declared.edge.Kind.TheVariants.{Absent, GhostBottom, GhostTop, PairBottom, PairTop}
 use Rattle.hintmap.specs.declared.map.HintMap.{HintMap}
 use Rattle.words.specs.Bytes.{over}
 use Rattle.listing.specs.declared.record.EdgeRecord.{EdgeRecord}
 use Rattle.listing.specs.declared.summary.Summary.{Summary}
-use Rattle.listing.specs.declared.answer.ListAnswer.{ListAnswer}
-use Rattle.listing.specs.declared.answer.ListAnswer.TheVariants.{Listed, ListRoom}
+use Rattle.listing.specs.declared.answer.ListRoom.{ListRoom}
 use Rattle.listing.specs.Records.{records_of, summary_of, no_summary}
 
 -- ---- the answer
+abbrev pub ListAnswer : Type 0
+ListAnswer = Result Summary ListRoom
+
 -- 0 is OK, 8 LIST_ROOM
 abbrev pub list_number : ListAnswer → ℕ
-list_number (Listed s) = 0
-list_number ListRoom = 8
+list_number (Ok s) = 0
+list_number (Err e) = 8
 
 abbrev pub list_place : ListAnswer → ℕ
 list_place a = 0
 
 -- zeros if refused
 abbrev pub list_summary : ListAnswer → Summary
-list_summary (Listed s) = s
-list_summary ListRoom = no_summary
+list_summary (Ok s) = s
+list_summary (Err e) = no_summary
 
 -- refused exactly if the map has more records than there is room for
 unfoldable pub list_answer : HintMap → ℕ → ListAnswer
-list_answer m room = cond (leb (length (records_of m)) room) (Listed (summary_of (records_of m))) ListRoom
+list_answer m room = cond (leb (length (records_of m)) room) (Ok (summary_of (records_of m))) (Err (record {}))
 
 -- ---- the list
 -- what is listed into room for so many records: all or none

@@ -4,31 +4,41 @@ ghost use Rattle.listing.specs.Listing.{list_number, list_summary, list_answer, 
 
 use crate::summary::{Summary, summarize};
 use hintmap::HintMap;
+use std::error::Error;
+use std::fmt;
 
-#[derive(Clone, Copy)]
-pub enum ListAnswer {
-    // OK, and the summary of what is listed.
-    Listed(Summary),
-    ListRoom,
+// The map has more records than there is room for, and nothing is listed.
+#[derive(Clone, Copy, Debug, PartialEq, Eq)]
+pub struct ListRoom;
+
+impl fmt::Display for ListRoom {
+    fn fmt<W: fmt::Write>(&self, f: &mut fmt::Formatter<W>) -> fmt::Result {
+        write!(f, "the map has more records than the list has room for")
+    }
 }
 
-impl ListAnswer {
-    pub fn code(self) -> u32
-        ensures { result ≡ list_number self }
-    {
-        match self {
-            ListAnswer::Listed(_) => 0,
-            ListAnswer::ListRoom => 8,
-        }
-    }
+impl Error for ListRoom {}
 
-    pub fn summary(self) -> Summary
-        ensures { result ≡ list_summary self }
-    {
-        match self {
-            ListAnswer::Listed(summary) => summary,
-            ListAnswer::ListRoom => Summary::none(),
-        }
+// The summary of what is listed.
+pub type ListAnswer = Result<Summary, ListRoom>;
+
+// The number of an answer, 0 for OK.
+pub fn code(answer: ListAnswer) -> u32
+    ensures { result ≡ list_number answer }
+{
+    match answer {
+        Ok(_) => 0,
+        Err(ListRoom) => 8,
+    }
+}
+
+// The summary of what is listed, zeros if nothing is.
+pub fn list_summary(answer: ListAnswer) -> Summary
+    ensures { result ≡ list_summary answer }
+{
+    match answer {
+        Ok(summary) => summary,
+        Err(ListRoom) => Summary::none(),
     }
 }
 
@@ -38,16 +48,15 @@ pub(crate) fn answer_for(map: HintMap, room: usize) -> ListAnswer
 {
     let summary = summarize(map);
     if room < summary.edges {
-        return ListAnswer::ListRoom;
+        return Err(ListRoom);
     }
-    ListAnswer::Listed(summary)
+    Ok(summary)
 }
 
 // How many records are listed then: all of the map's, or none.
 pub(crate) fn count_for(map: HintMap, room: usize) -> usize
     ensures { result ≡ length (records_in map room) }
 {
-    let answer = answer_for(map, room);
-    let summary = answer.summary();
+    let summary = list_summary(answer_for(map, room));
     summary.edges
 }

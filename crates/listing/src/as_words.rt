@@ -11,7 +11,7 @@ use stems::Kind;
 const RECORD_WORDS: usize = 6;
 
 // The number of a kind. No edge of a map is absent.
-fn kind_number(kind: Kind) -> i32
+pub fn kind_number(kind: Kind) -> i32
     ensures { result ≡ pos (kind_number kind) }
 {
     match kind {
@@ -28,28 +28,27 @@ fn put_record(words: &mut [i32], edge: EdgeRecord)
     requires { length words.old ≡ 6 }
     ensures { words.new ≡ record_words edge }
 {
-    let height = edge.height.bits;
-    let device = edge.device.bits;
-    let scale = edge.scale.bits;
-    let kind = edge.kind;
-    words[0] = height;
-    words[1] = device;
-    words[2] = scale;
-    words[3] = kind_number(kind);
-    words[4] = edge.stem as i32;
-    words[5] = edge.locked as i32;
+    words.copy_from_slice(&[
+        edge.height.bits,
+        edge.device.bits,
+        edge.scale.bits,
+        kind_number(edge.kind),
+        edge.stem as i32,
+        edge.locked as i32,
+    ]);
 }
 
 // Fills a lent list of words; those behind the records stand.
+#[tactic(auto, using(crate::proofs::Answers::listed_few))]
 pub fn list_words(map: HintMap, list: &mut [i32]) -> ListAnswer
     ensures { ListsWords map list.old result list.new }
 {
     let room = list.len() / RECORD_WORDS;
     let count = count_for(map, room);
-    for i in 0..count {
+    for (i, edge) in map.edges[..count].iter().enumerate() {
         let at = RECORD_WORDS * i;
         let end = at + RECORD_WORDS;
-        put_record(&mut list[at..end], EdgeRecord::of(map.edges[i]));
+        put_record(&mut list[at..end], EdgeRecord::of(*edge));
     }
     answer_for(map, room)
 }

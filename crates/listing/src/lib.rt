@@ -7,8 +7,8 @@ mod list;
 mod record;
 mod summary;
 
-pub use answer::ListAnswer;
-pub use as_words::list_words;
+pub use answer::{ListAnswer, ListRoom, code, list_summary};
+pub use as_words::{kind_number, list_words};
 pub use list::list_edges;
 pub use record::{EdgeRecord, SYNTHETIC};
 pub use summary::{Summary, summarize};

@@ -22,11 +22,9 @@ pub fn list_edges(map: HintMap, list: &mut [EdgeRecord]) -> ListAnswer
 {
     let room = list.len();
     let count = count_for(map, room);
-    let mut i = 0;
-    while i < count {
-        let record = record_at(map, i);
-        list[i] = record;
-        i = i + 1;
+    // It goes by places, since the wrong answer `first_edge_for_every_record` needs `record_at`.
+    for i in 0..count {
+        list[i] = record_at(map, i);
     }
     answer_for(map, room)
 }

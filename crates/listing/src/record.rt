@@ -10,7 +10,7 @@ pub const SYNTHETIC: u8 = 96;
 
 // An edge as it stands after the build: its character height, its device height in full, the scale
 // from it on, its kind, its stem and whether it is locked.
-#[derive(Clone, Copy)]
+#[derive(Clone, Copy, Debug, PartialEq, Eq)]
 pub struct EdgeRecord {
     pub height: Fixed,
     pub device: Fixed,
@@ -21,7 +21,7 @@ pub struct EdgeRecord {
 }
 
 // What is counted beside the edges themselves.
-#[derive(Clone, Copy)]
+#[derive(Clone, Copy, Debug, PartialEq, Eq)]
 pub(crate) enum Counted {
     Pairs,
     Ghosts,
@@ -41,15 +41,11 @@ impl EdgeRecord {
     pub fn of(edge: Hint) -> EdgeRecord
         ensures { result ≡ record_of edge }
     {
-        let height = edge.cs_coord;
-        let device = edge.ds_coord;
-        let scale = edge.scale;
-        let kind = edge.kind;
         EdgeRecord {
-            height,
-            device,
-            scale,
-            kind,
+            height: edge.cs_coord,
+            device: edge.ds_coord,
+            scale: edge.scale,
+            kind: edge.kind,
             stem: stem_of(edge),
             locked: edge.locked,
         }
@@ -59,22 +55,9 @@ impl EdgeRecord {
     pub(crate) fn counts_as(self, what: Counted) -> bool
         ensures { result ≡ counts what self }
     {
-        let kind = self.kind;
         match what {
-            Counted::Pairs => match kind {
-                Kind::Absent => false,
-                Kind::GhostBottom => false,
-                Kind::GhostTop => false,
-                Kind::PairBottom => true,
-                Kind::PairTop => false,
-            },
-            Counted::Ghosts => match kind {
-                Kind::Absent => false,
-                Kind::GhostBottom => true,
-                Kind::GhostTop => true,
-                Kind::PairBottom => false,
-                Kind::PairTop => false,
-            },
+            Counted::Pairs => matches!(self.kind, Kind::PairBottom),
+            Counted::Ghosts => matches!(self.kind, Kind::GhostBottom | Kind::GhostTop),
             Counted::Locked => self.locked,
         }
     }

@@ -8,7 +8,7 @@ use hintmap::HintMap;
 use stems::MAX_HINTS;
 
 // Edges, pairs by their bottoms, ghosts with the synthetic ones, and locked edges.
-#[derive(Clone, Copy)]
+#[derive(Clone, Copy, Debug, PartialEq, Eq)]
 pub struct Summary {
     pub edges: usize,
     pub pairs: usize,
@@ -34,14 +34,10 @@ fn count(map: HintMap, what: Counted) -> usize
     ensures { result ≡ count_of (counts what) (edge_records map) }
 {
     let len = least(map.len, MAX_HINTS);
-    let mut count = 0;
-    for i in 0..len {
-        let record = EdgeRecord::of(map.edges[i]);
-        if record.counts_as(what) {
-            count += 1;
-        }
-    }
-    count
+    map.edges[..len]
+        .iter()
+        .filter(|edge| EdgeRecord::of(**edge).counts_as(what))
+        .count()
 }
 
 // The summary of a map's records, of which an invalid one has none.

@@ -8,13 +8,25 @@ use borrow.Fn.World.{ArgsD, ResD}
 use contract.Lifetimes.{Lfts}
 use denote.Triple.Clauses.{AtExit}
 use Rattle.listing.specs.declared.summary.Summary.{Summary}
-use Rattle.overlay.specs.declared.answer.SeenAnswer.{SeenAnswer}
-use Rattle.overlay.proofs.answer.SeenAnswer.code.Reads as code_Reads
-use Rattle.overlay.proofs.answer.SeenAnswer.place.Reads as place-reads
-use Rattle.overlay.proofs.answer.SeenAnswer.summary.Reads as summary-reads
+use Rattle.overlay.specs.declared.answer.LookRefusal.{LookRefusal}
+use Rattle.overlay.specs.Seen.{SeenAnswer}
+use Rattle.overlay.proofs.answer.LookRefusal.code.Reads as refusal_code-reads
+use Rattle.overlay.proofs.answer.LookRefusal.place.Reads as refusal_place-reads
+use Rattle.overlay.proofs.answer.code.Reads as code_Reads
+use Rattle.overlay.proofs.answer.place.Reads as place-reads
+use Rattle.overlay.proofs.answer.summary.Reads as summary-reads
 use Rattle.overlay.specs.contracts.seeing.see_edges as see-edges
 use Rattle.overlay.proofs.seeing.see_edges.Kinds as see-edges-kinds
 use Rattle.overlay.proofs.seeing.see_edges.Reads as see-edges-reads
+
+module _ (κs : Lfts 0) (a : LookRefusal) (r r' : ℕ) where
+  pub refusal_code-unique : refusal_code-reads.Post κs (a, tt) r (a, tt) →
+      refusal_code-reads.Post κs (a, tt) r' (a, tt) → r ≡ r'
+  refusal_code-unique p q = p ∙ sym q
+
+  pub refusal_place-unique : refusal_place-reads.Post κs (a, tt) r (a, tt) →
+      refusal_place-reads.Post κs (a, tt) r' (a, tt) → r ≡ r'
+  refusal_place-unique p q = p ∙ sym q
 
 module _ (κs : Lfts 0) (a : SeenAnswer) where
   pub code-unique : (r r' : ℕ) → code_Reads.Post κs (a, tt) r (a, tt) → code_Reads.Post κs (a, tt) r' (a, tt) → r ≡ r'

@@ -4,5 +4,5 @@
 mod answer;
 mod seeing;
 
-pub use answer::SeenAnswer;
+pub use answer::{LookRefusal, SeenAnswer, code, place, summary};
 pub use seeing::see_edges;

@@ -6,13 +6,9 @@ use listing::list_words;
 use script::{check_script, map_after};
 
 // Lists the edges of the map that a script has after its first so many commands, as words.
-#[tactic(auto, using(crate::proofs::Ways::fault_stands))]
 pub fn see_edges(script: &[u8], commands: usize, list: &mut [i32]) -> SeenAnswer
     ensures { Sees (seen_of script.now commands list.old) result list.new }
 {
-    let fault = check_script(script);
-    if fault.code() != 0 {
-        return SeenAnswer::Refused(fault);
-    }
+    check_script(script)?;
     seen_as(list_words(map_after(script, commands), list))
 }

@@ -9,6 +9,7 @@ use lib.Dec.{ltb}
 use lib.IntN.{ℤ, pos}
 use lib.ListN.{length, take, drop, get_or, length-map, get_or-map}
 use borrow.Author.Tests.{le-ltb}
+use Rattle.std.specs.Prelude.{Ok}
 use Rattle.fixed.specs.declared.Fixed.{Fixed}
 use Rattle.fixed.specs.Integers.{low_bits, bits_of}
 use Rattle.zones.specs.declared.state.HintParams.{HintParams}
@@ -16,11 +17,9 @@ use Rattle.zones.specs.declared.state.HintState.{HintState}
 use Rattle.zones.specs.State.{state_of}
 use Rattle.pen.specs.Records.{written}
 use Rattle.hints.specs.Calls.{new_drawing}
-use Rattle.words.specs.declared.answer.Answer.{Answer}
-use Rattle.words.specs.declared.answer.Answer.TheVariants.{Ok}
 use Rattle.words.specs.Words.{raw_at, given_word, number_at}
 use Rattle.words.specs.Rows.{first_or}
-use Rattle.words.specs.Answers.{first_of, refuses}
+use Rattle.words.specs.Answers.{Answer, first_of, refuses}
 use Rattle.commands.specs.Commands.{CommandAt, commands_of}
 use Rattle.commands.specs.Faults.{command_rows}
 use Rattle.run.specs.Room.{Fitted, words_along}
@@ -30,7 +29,6 @@ use Rattle.script.specs.Script.{commands_in, calls_in, check_rows, zones_of, ste
 use Rattle.script.specs.Script.{ended_by}
 use Rattle.script.specs.Script.{script_of}
 use Rattle.writer.specs.ToWrite.{padded_bytes}
-use Rattle.labels.specs.declared.label_answer.LabelAnswer.TheVariants.{Written}
 use Rattle.labels.specs.Answers.{label_refuses}
 use Rattle.labels.specs.Glyphs.{Glyph, glyph, fault_of, records_of}
 use Rattle.labels.specs.Glyphs as glyphs
@@ -116,7 +114,7 @@ module _ (scale : Fixed) (p : HintParams) (g : Glyph) (held : Held scale) (param
       ap (state_of (kept_params p)) (scale-said c held params holds) ∙
       same-state p (sevens p params) o.params scale
 
-  module _ (fine : fault_of g ≡ Ok) where
+  module _ (fine : fault_of g ≡ Ok tt) where
     abbrev st : HintState
     st = state_of p scale
 
@@ -142,7 +140,7 @@ module _ (scale : Fixed) (p : HintParams) (g : Glyph) (held : Held scale) (param
 
     -- its run leaves them, where there is room
     run-own : (lent : List ℤ) → 4 + length (records_of st g) ≤ length lent →
-        script_of s lent ≡ record { answer = Ok; left = written (result_words (records_of st g)) lent }
+        script_of s lent ≡ record { answer = Ok tt; left = written (result_words (records_of st g)) lent }
     unfolding script_of
     run-own lent room =
         let accepted = fault-own ∙ ap (behind at) fine in
@@ -150,12 +148,12 @@ module _ (scale : Fixed) (p : HintParams) (g : Glyph) (held : Held scale) (param
         ap (λ (a : Answer). result_by (refuses a) (ltb (length lent) 4) s lent) accepted ∙
         ap (λ (b : Bool). result_by false b s lent) (le-ltb (length lent) 4 (omega arith)) ∙
         ap (λ (f : Fitted). ended_by f lent) (fits_whole (length lent - 4) (steps_in s) fits) ∙
-        ap (λ (ws : List ℤ). record { answer = Ok; left = written (result_words ws) lent }) records-own
+        ap (λ (ws : List ℤ). record { answer = Ok tt; left = written (result_words ws) lent }) records-own
 
 -- ---- the laws
 -- a glyph's first fault is that of its own script
 pub fault-alone : (scale : Fixed) (p : HintParams) (g : Glyph) → Held scale → HeldParams p →
-    first_or (Written 0) (open_rows scale p) ≡ Written 0 → length (own_script scale p g) ≤ most_bytes → FaultAlone scale
+    first_or (Ok 0) (open_rows scale p) ≡ Ok 0 → length (own_script scale p g) ≤ most_bytes → FaultAlone scale
     p g
 fault-alone scale p g held params o short =
     rw (own_is scale p g) (fault-own scale p g held params (opened scale p o) short)

@@ -9,14 +9,14 @@ use lib.IntN.{ℤ, pos}
 use lib.ListN.{length, take, drop, get_or}
 use lib.Seq.{take_at}
 use Rattle.pen.specs.Records.{written}
-use Rattle.words.specs.declared.answer.Answer.{Answer}
 use Rattle.words.proofs.Answers.{says_is}
 use Rattle.script.specs.Script.{Result, result_words, script_of, Scripted}
-use Rattle.labels.specs.declared.label_answer.LabelAnswer.{LabelAnswer}
+use Rattle.labels.specs.Answers.{LabelAnswer}
 use Rattle.labels.specs.Answers.{label_refuses}
 use Rattle.labels.specs.Labels.{Label, glyphs_in, labels_of, Labelled}
 use Rattle.own_scripts.specs.OwnScripts.{most_bytes, HeldLabel, script_at, records_at, offset_at, SameLeft}
 use Rattle.own_scripts.proofs.Alone.{alone}
+use Rattle.words.specs.Answers.{Answer}
 
 -- the result of some record words: how many there are, and that they stand behind its header
 said-there : (ws lent : List ℤ) → get_or (written (result_words ws) lent) 3 (pos 0) ≡ pos (length ws)

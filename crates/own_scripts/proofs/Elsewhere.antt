@@ -9,11 +9,12 @@ use lib.Dec.{ltb}
 use lib.IntN.{ℤ}
 use lib.ListN.{length, take, drop}
 use borrow.Author.Tests.{ltb-true, ltb-false}
+use Rattle.std.specs.Prelude.{Ok, Err}
 use Rattle.stems.specs.Mask.{mask_of}
 use Rattle.zones.specs.declared.state.HintState.{HintState}
 use Rattle.hints.specs.declared.drawing.Drawing.{Drawing}
 use Rattle.hints.specs.Calls.{hint_mask, counter_mask, next_of, words_for}
-use Rattle.words.specs.declared.answer.Answer.TheVariants.{Ok, BadCommand, BadMask}
+use Rattle.words.specs.declared.answer.Refusal.TheVariants.{BadCommand, BadMask}
 use Rattle.words.specs.Rows.{first_or}
 use Rattle.words.specs.Answers.{first_of}
 use Rattle.words.proofs.Rows.{none-holds}
@@ -87,9 +88,9 @@ faults-behind b bytes (c ∷ cs) = by (is_bad c.command) (has_bad_mask bytes c.c
   where
     by : (s t : Bool) →
         first_of (command_rows bytes (map (command_behind b) cs)) ≡ behind b (first_of (command_rows bytes cs)) →
-        cond s (BadCommand (b + c.place))
-        (cond t (BadMask (b + c.place)) (first_of (command_rows bytes (map (command_behind b) cs)))) ≡
-        behind b (cond s (BadCommand c.place) (cond t (BadMask c.place) (first_of (command_rows bytes cs))))
+        cond s (Err (BadCommand (b + c.place)))
+        (cond t (Err (BadMask (b + c.place))) (first_of (command_rows bytes (map (command_behind b) cs)))) ≡
+        behind b (cond s (Err (BadCommand c.place)) (cond t (Err (BadMask c.place)) (first_of (command_rows bytes cs))))
     by true t again = refl
     by false true again = refl
     by false false again = again
@@ -99,14 +100,14 @@ abbrev pub asked_behind : ℕ → Asked → Asked
 asked_behind b c = record { place = b + c.place; call = c.call }
 
 -- where no command has a fault the first has no bad mask
-first_fine : (bytes : ℕ) (c : CommandAt) (cs : List CommandAt) → first_of (command_rows bytes (c ∷ cs)) ≡ Ok →
-    (has_bad_mask bytes c.command ≡ false) × (first_of (command_rows bytes cs) ≡ Ok)
+first_fine : (bytes : ℕ) (c : CommandAt) (cs : List CommandAt) → first_of (command_rows bytes (c ∷ cs)) ≡ Ok tt →
+    (has_bad_mask bytes c.command ≡ false) × (first_of (command_rows bytes cs) ≡ Ok tt)
 unfolding command_rows
 first_fine bytes c cs e =
     let rs = fault_rows bytes c.place c.command in
     let r = refusing rs refl in
     let b = both_ok rs (command_rows bytes cs) r e in
-    (none-holds Ok rs r b.0 1, b.1)
+    (none-holds (Ok tt) rs r b.0 1, b.1)
 
 -- behind so many bytes of a script stand the mask bytes
 module _ (s masks zeros : List ℕ) (from : ℕ) (there : drop from s ≡ masks ++ zeros) where
@@ -130,7 +131,7 @@ module _ (s masks zeros : List ℕ) (from : ℕ) (there : drop from s ≡ masks 
   call-alike (Draw p) e = refl
 
   -- and so are all of them
-  pub calls-alike : (b : ℕ) (cs : List CommandAt) → first_of (command_rows (length masks) cs) ≡ Ok →
+  pub calls-alike : (b : ℕ) (cs : List CommandAt) → first_of (command_rows (length masks) cs) ≡ Ok tt →
       calls_of s from (map (command_behind b) cs) ≡ map (asked_behind b) (calls_of masks 0 cs)
   unfolding calls_of
   calls-alike b [] e = refl

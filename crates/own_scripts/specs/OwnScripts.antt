@@ -1,16 +1,15 @@
 -- Request 5's law: each glyph's records equal those of its own script run alone with room enough, 01's
 -- length limit apart.
-use Rattle.std.specs.Prelude.{◌≡◌, List, [], ◌++◌, map, ℕ, ◌+◌, ◌*◌, ◌≤◌, ℤ, pos, length, take, drop, get_or}
+use Rattle.std.specs.Prelude.{◌≡◌, List, [], ◌++◌, map, ℕ, ◌+◌, ◌*◌, ◌≤◌, ℤ, pos, length, take, drop, get_or, Ok, Err}
 use Rattle.fixed.specs.declared.Fixed.{Fixed}
 use Rattle.fixed.specs.Integers.{bits_of}
 use Rattle.zones.specs.declared.state.HintParams.{HintParams}
 use Rattle.zones.specs.State.{state_of}
 use Rattle.pen.specs.Records.{written}
-use Rattle.words.specs.declared.answer.Answer.{Answer}
-use Rattle.words.specs.declared.answer.Answer.TheVariants.{Ok, BadScript, BadScale, BadBlues, BadCommand, BadMask}
-use Rattle.words.specs.declared.answer.Answer.TheVariants.{NoRoom}
+use Rattle.words.specs.declared.answer.Refusal.TheVariants.{BadScript, BadScale, BadBlues, BadCommand, BadMask}
+use Rattle.words.specs.declared.answer.Refusal.TheVariants.{NoRoom}
 use Rattle.words.specs.Bytes.{bytes_of}
-use Rattle.words.specs.Answers.{first_of}
+use Rattle.words.specs.Answers.{Answer, first_of}
 use Rattle.script.specs.Script.{check_rows, result_words, script_of}
 use Rattle.writer.specs.ToWrite.{param_words, header_words, padded_bytes}
 use Rattle.labels.specs.Glyphs.{Glyph, glyph, fault_of, records_of}
@@ -60,7 +59,7 @@ pub record Alone (l : Label) (out : List ℤ) (k : ℕ) : Type 0 where
   pub bytes : Bytes (script_at l k)
   -- which, where 01's limit allows them, are accepted, and run with room enough leave these records
   pub run : length (script_at l k) ≤ most_bytes → (lent : List ℤ) → 4 + length (records_at l k) ≤ length lent →
-      script_of (script_at l k) lent ≡ record { answer = Ok; left = written (result_words (records_at l k)) lent }
+      script_of (script_at l k) lent ≡ record { answer = Ok tt; left = written (result_words (records_at l k)) lent }
   -- the label's result says where they start and how many words they have
   pub offset : get_or (labels_of l out).left (2 + 2 * k) (pos 0) ≡ pos (offset_at l k)
   pub words : get_or (labels_of l out).left (3 + 2 * k) (pos 0) ≡ pos (length (records_at l k))
@@ -74,20 +73,20 @@ pub record Alone (l : Label) (out : List ℤ) (k : ℕ) : Type 0 where
 -- an own script run alone, where the label run left n words of records from word o on: it is answered
 -- OK, says as many record words, and has the same ones behind its header
 pub record SameLeft (o n : ℕ) (left : List ℤ) (said : Answer) (alone : List ℤ) : Type 0 where
-  pub ok : said ≡ Ok
+  pub ok : said ≡ Ok tt
   pub words : get_or alone 3 (pos 0) ≡ pos n
   pub records : take n (drop 4 alone) ≡ take n (drop o left)
 
 -- ---- a glyph with a fault
 -- a place among command words, behind so many other words
 abbrev pub behind : ℕ → Answer → Answer
-behind n Ok = Ok
-behind n (BadScript p) = BadScript p
-behind n BadScale = BadScale
-behind n (BadBlues p) = BadBlues p
-behind n (BadCommand p) = BadCommand (n + p)
-behind n (BadMask p) = BadMask (n + p)
-behind n (NoRoom p) = NoRoom p
+behind n (Ok tt) = Ok tt
+behind n (Err (BadScript p)) = Err (BadScript p)
+behind n (Err BadScale) = Err BadScale
+behind n (Err (BadBlues p)) = Err (BadBlues p)
+behind n (Err (BadCommand p)) = Err (BadCommand (n + p))
+behind n (Err (BadMask p)) = Err (BadMask (n + p))
+behind n (Err (NoRoom p)) = Err (NoRoom p)
 
 -- its own script gets the same answer, with the place in the script
 abbrev pub FaultAlone : Fixed → HintParams → Glyph → Type 0

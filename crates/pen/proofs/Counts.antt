@@ -7,11 +7,9 @@ use Prim.Native.Nat.{◌≤◌}
 use native.Mathlib.Omega.{arith}
 use lib.IntN.{pos}
 use lib.ListN.{length, length-append}
+use Rattle.std.proofs.Common.{Option, Some, None}
 use Rattle.pen.specs.declared.strokes.Point.{Point}
-use Rattle.pen.specs.declared.strokes.Start.{Start}
-use Rattle.pen.specs.declared.strokes.Start.TheVariants.{At, Absent as NoStart}
-use Rattle.pen.specs.declared.strokes.Waiting.{Waiting}
-use Rattle.pen.specs.declared.strokes.Waiting.TheVariants.{Line as WaitingLine, Absent as NoLine}
+use Rattle.pen.specs.declared.strokes.WaitingLine.{WaitingLine}
 use Rattle.pen.specs.declared.strokes.Pen.{Pen}
 use Rattle.pen.specs.declared.strokes.Path.{Path}
 use Rattle.pen.specs.declared.strokes.Path.TheVariants.{Move, Line, Curve, Finish}
@@ -22,14 +20,14 @@ use Rattle.pen.specs.Strokes.{move_of, line_of, curve_of, finish_of}
 use Rattle.pen.specs.Counting.{waiting_at, trail_of, flush_count, close_count, count_of}
 
 -- ---- at most 10 words a call
-flush-few : (waiting : Start) → flush_count waiting ≤ 3
-flush-few NoStart = omega arith
-flush-few (At p) = omega arith
+flush-few : (waiting : Option Point) → flush_count waiting ≤ 3
+flush-few None = omega arith
+flush-few (Some p) = omega arith
 
-close-few : (start waiting : Start) → close_count start waiting ≤ 4
-close-few NoStart waiting = omega arith
-close-few (At from) NoStart = omega arith
-close-few (At from) (At p) = pick (same_point p from)
+close-few : (start waiting : Option Point) → close_count start waiting ≤ 4
+close-few None waiting = omega arith
+close-few (Some from) None = omega arith
+close-few (Some from) (Some p) = pick (same_point p from)
   where
     pick : (b : Bool) → cond b 1 4 ≤ 4
     pick true = omega arith
@@ -43,18 +41,28 @@ count-few t (Curve p q r) = omega (arith, flush-few t.waiting)
 count-few t Finish = omega (arith, close-few t.start t.waiting)
 
 -- ---- a flush and a close
-flushed : (w : Waiting) → length (waiting_words w) ≡ flush_count (waiting_at w)
-flushed NoLine = refl
-flushed (WaitingLine at device) = refl
+flushed : (w : Option WaitingLine) → length (waiting_words w) ≡ flush_count (waiting_at w)
+flushed None = refl
+flushed (Some line) = refl
 
-closed : (s : Start) (w : Waiting) → length (close_by s w) ≡ close_count s (waiting_at w)
-closed NoStart w = refl
-closed (At from) NoLine = refl
-closed (At from) (WaitingLine at device) = pick (same_point at from)
+closed : (s : Option Point) (w : Option WaitingLine) → length (close_by s w) ≡ close_count s (waiting_at w)
+closed None w = refl
+closed (Some from) None = refl
+closed (Some from) (Some line) = pick (same_point line.at from)
   where
-    pick : (b : Bool) → length (cond b (pos 4 ∷ []) (pos 2 ∷ point_words device ++ pos 4 ∷ [])) ≡ cond b 1 4
+    pick : (b : Bool) → length (cond b (pos 4 ∷ []) (pos 2 ∷ point_words line.device ++ pos 4 ∷ [])) ≡ cond b 1 4
     pick true = refl
     pick false = refl
+
+module _ (pen : Pen) where
+  -- the words of a flush, and of a close, by the trail of the pen
+  pub flush_counted : length (flush_words pen) ≡ flush_count (trail_of pen).waiting
+  unfolding flush_words
+  flush_counted = flushed pen.waiting
+
+  pub close_counted : length (closing_words pen) ≡ close_count (trail_of pen).start (trail_of pen).waiting
+  unfolding closing_words
+  close_counted = closed pen.start pen.waiting
 
 -- ---- a stroke
 -- the trail that it leaves, and the number of its words

@@ -7,11 +7,11 @@ use Prim.Native.Nat.{ℕ, ◌≤◌, ◌<◌}
 use native.Mathlib.Omega.{arith}
 use lib.IntN.{ℤ}
 use lib.ListN.{length}
+use Rattle.std.proofs.Common.{Result, Ok, Err}
 use borrow.Author.Tests.{le-leb, lt-leb}
 use Rattle.pen.specs.declared.strokes.Pen.{Pen}
 use Rattle.pen.specs.declared.drawn.Drawn.{Drawn}
-use Rattle.pen.specs.declared.drawn.CallAnswer.{CallAnswer}
-use Rattle.pen.specs.declared.drawn.CallAnswer.TheVariants.{Wrote, NoRoom}
+use Rattle.pen.specs.declared.drawn.NoRoom.{NoRoom}
 use Rattle.pen.specs.Records.{written, fits}
 use Rattle.pen.specs.Strokes.{Stroke}
 use Rattle.pen.specs.Drawn.{call_number, call_words, Drew}
@@ -20,13 +20,14 @@ use Rattle.pen.specs.Drawn.{call_number, call_words, Drew}
 module _ {t : Stroke} {from : Pen} {out : List ℤ} where
   -- words that fit are written
   pub drew : {n : ℕ} {left : List ℤ} → n ≡ length t.words → n ≤ length out → left ≡ written t.words out →
-      Drew t from out (record { pen = t.pen; answer = Wrote n }) left
+      Drew t from out (record { pen = t.pen; answer = Ok n }) left
   drew e h m =
       let f = le-leb (length t.words) (length out) (omega arith) in
       record { number = rw f; words = rw f e; place = refl; pen = rw f; memory = rw f m }
 
   -- for others there is no room
-  pub no_room : {said : Drawn} → said ≡ record { pen = from; answer = NoRoom } → length out < length t.words →
+  pub no_room : {said : Drawn} {e : NoRoom} → said ≡ record { pen = from; answer = Err e } →
+      length out < length t.words →
       Drew t from out said out
   no_room e h =
       let f = lt-leb (length t.words) (length out) h in
@@ -47,7 +48,7 @@ pub record DrewNothing (t : Stroke) (from : Pen) (out : List ℤ) (said : Drawn)
   pub left : exit ≡ out
 
 module _ {t : Stroke} {from : Pen} {out : List ℤ} {said : Drawn} {exit : List ℤ} (h : Drew t from out said exit) where
-  pub drew-wrote : (k : ℕ) → said.answer ≡ Wrote k → DrewWords t out said k exit
+  pub drew-wrote : (k : ℕ) → said.answer ≡ Ok k → DrewWords t out said k exit
   drew-wrote k a =
       go (fits t.words out) refl (ap call_number (sym a) ∙ h.number) (ap call_words (sym a) ∙ h.words) h.pen
       h.memory
@@ -57,7 +58,7 @@ module _ {t : Stroke} {from : Pen} {out : List ℤ} {said : Drawn} {exit : List 
       go true f n w p l = record { fit = f; pen = p; count = w; left = l }
       go false f n w p l = absurd (omega arith)
 
-  pub drew-refused : said.answer ≡ NoRoom → DrewNothing t from out said exit
+  pub drew-refused : {e : NoRoom} → said.answer ≡ Err e → DrewNothing t from out said exit
   drew-refused a = go (fits t.words out) refl (ap call_number (sym a) ∙ h.number) h.pen h.memory
     where
       go : (b : Bool) → fits t.words out ≡ b → ◌≡◌ {A = ℕ} 6 (cond b 0 6) → said.pen ≡ cond b t.pen from →
@@ -67,16 +68,16 @@ module _ {t : Stroke} {from : Pen} {out : List ℤ} {said : Drawn} {exit : List 
 
 -- ---- it is the only one
 -- the number and the words of an answer tell which it is
-pub same_answer : (a b : CallAnswer) → call_number a ≡ call_number b → call_words a ≡ call_words b → a ≡ b
-same_answer (Wrote n) (Wrote k) e w = ap Wrote w
-same_answer (Wrote n) NoRoom e w = absurd (omega arith)
-same_answer NoRoom (Wrote k) e w = absurd (omega arith)
-same_answer NoRoom NoRoom e w = refl
+pub same_answer : (a b : Result ℕ NoRoom) → call_number a ≡ call_number b → call_words a ≡ call_words b → a ≡ b
+same_answer (Ok n) (Ok k) e w = ap Ok w
+same_answer (Ok n) (Err _) e w = absurd (omega arith)
+same_answer (Err _) (Ok k) e w = absurd (omega arith)
+same_answer (Err _) (Err _) e w = refl
 
 same-drawn : {d e : Drawn} → d.pen ≡ e.pen → d.answer ≡ e.answer → d ≡ e
 same-drawn {d} {e} p a =
     ap (λ (x : Pen). record { pen = x; answer = d.answer }) p ∙
-    ap (λ (x : CallAnswer). record { pen = e.pen; answer = x }) a
+    ap (λ (x : Result ℕ NoRoom). record { pen = e.pen; answer = x }) a
 
 -- two outcomes of a stroke have the same result and the same words
 pub drew-one : {t : Stroke} {from : Pen} {out : List ℤ} {r r' : Drawn} {left left' : List ℤ} → Drew t from out r left →

@@ -3,17 +3,15 @@
 use mathlib.Core.Path.{◌≡◌, refl, sym, ◌∙◌}
 use mathlib.Core.Bool.{Bool, true, false, cond}
 use mathlib.Core.List.{List, ◌++◌, ◌∷◌, [], append_assoc}
-use Prim.Native.Nat.{ℕ, ◌-◌, ◌≤◌, ◌<◌}
+use Prim.Native.Nat.{ℕ, ◌+◌, ◌-◌, ◌≤◌, ◌<◌}
 use native.Mathlib.Omega.{arith}
 use lib.IntN.{ℤ, pos}
 use lib.ListN.{length, take, drop, set, length-append}
 use lib.Seq.{drop-cons, drop-drop, set-append_seam, take-append_seam, drop-append_seam}
 use borrow.Rule.Slice.PartMut.{put_mid}
+use Rattle.std.proofs.Common.{Option, Some, None}
 use Rattle.pen.specs.declared.strokes.Point.{Point}
-use Rattle.pen.specs.declared.strokes.Start.{Start}
-use Rattle.pen.specs.declared.strokes.Start.TheVariants.{At, Absent as NoStart}
-use Rattle.pen.specs.declared.strokes.Waiting.{Waiting}
-use Rattle.pen.specs.declared.strokes.Waiting.TheVariants.{Line, Absent as NoLine}
+use Rattle.pen.specs.declared.strokes.WaitingLine.{WaitingLine}
 use Rattle.pen.specs.declared.strokes.Pen.{Pen}
 use Rattle.pen.specs.Records.{written}
 use Rattle.pen.specs.Strokes.{same_point, point_words, close_by, waiting_words, closing_words, flush_words, move_of}
@@ -58,39 +56,39 @@ written_none [] out e = refl
 written_none (w ∷ ws) out e = absurd (omega arith)
 
 -- ---- the words of a flush and of a close
-waiting-short : (w : Waiting) → length (waiting_words w) ≤ 3
-waiting-short NoLine = omega arith
-waiting-short (Line at device) = omega arith
+waiting-short : (w : Option WaitingLine) → length (waiting_words w) ≤ 3
+waiting-short None = omega arith
+waiting-short (Some line) = omega arith
 
-close-short : (s : Start) (w : Waiting) → length (close_by s w) ≤ 4
-close-short NoStart w = omega arith
-close-short (At from) NoLine = omega arith
-close-short (At from) (Line at device) = pick (same_point at from)
+close-short : (s : Option Point) (w : Option WaitingLine) → length (close_by s w) ≤ 4
+close-short None w = omega arith
+close-short (Some from) None = omega arith
+close-short (Some from) (Some line) = pick (same_point line.at from)
   where
-    pick : (b : Bool) → length (cond b (pos 4 ∷ []) (pos 2 ∷ point_words device ++ pos 4 ∷ [])) ≤ 4
+    pick : (b : Bool) → length (cond b (pos 4 ∷ []) (pos 2 ∷ point_words line.device ++ pos 4 ∷ [])) ≤ 4
     pick true = omega arith
     pick false = omega arith
 
-close-lone : (s : Start) (w : Waiting) → length (close_by s w) ≡ 1 → close_by s w ≡ pos 4 ∷ []
-close-lone NoStart w e = absurd (omega arith)
-close-lone (At from) NoLine e = refl
-close-lone (At from) (Line at device) e = pick (same_point at from) e
+close-lone : (s : Option Point) (w : Option WaitingLine) → length (close_by s w) ≡ 1 → close_by s w ≡ pos 4 ∷ []
+close-lone None w e = absurd (omega arith)
+close-lone (Some from) None e = refl
+close-lone (Some from) (Some line) e = pick (same_point line.at from) e
   where
-    pick : (b : Bool) → length (cond b (pos 4 ∷ []) (pos 2 ∷ point_words device ++ pos 4 ∷ [])) ≡ 1 →
-        cond b (pos 4 ∷ []) (pos 2 ∷ point_words device ++ pos 4 ∷ []) ≡ pos 4 ∷ []
+    pick : (b : Bool) → length (cond b (pos 4 ∷ []) (pos 2 ∷ point_words line.device ++ pos 4 ∷ [])) ≡ 1 →
+        cond b (pos 4 ∷ []) (pos 2 ∷ point_words line.device ++ pos 4 ∷ []) ≡ pos 4 ∷ []
     pick true e = refl
     pick false e = absurd (omega arith)
 
-close-line : (s : Start) (w : Waiting) → 1 < length (close_by s w) →
+close-line : (s : Option Point) (w : Option WaitingLine) → 1 < length (close_by s w) →
     (length (waiting_words w) ≡ 3) × (close_by s w ≡ waiting_words w ++ pos 4 ∷ [])
-close-line NoStart w h = absurd (omega arith)
-close-line (At from) NoLine h = absurd (omega arith)
-close-line (At from) (Line at device) h = pick (same_point at from) h
+close-line None w h = absurd (omega arith)
+close-line (Some from) None h = absurd (omega arith)
+close-line (Some from) (Some line) h = pick (same_point line.at from) h
   where
-    pick : (b : Bool) → 1 < length (cond b (pos 4 ∷ []) (pos 2 ∷ point_words device ++ pos 4 ∷ [])) →
-        (length (waiting_words (Line at device)) ≡ 3) × (cond b (pos 4 ∷ []) (pos 2 ∷ point_words device ++ pos 4 ∷ [])
+    pick : (b : Bool) → 1 < length (cond b (pos 4 ∷ []) (pos 2 ∷ point_words line.device ++ pos 4 ∷ [])) →
+        (length (waiting_words (Some line)) ≡ 3) × (cond b (pos 4 ∷ []) (pos 2 ∷ point_words line.device ++ pos 4 ∷ [])
         ≡
-        waiting_words (Line at device) ++ pos 4 ∷ [])
+        waiting_words (Some line) ++ pos 4 ∷ [])
     pick true h = absurd (omega arith)
     pick false h = (refl, refl)
 
@@ -116,22 +114,35 @@ module _ (pen : Pen) where
   unfolding closing_words flush_words
   closing-line = close-line pen.start pen.waiting
 
-  -- the words of a move are at most 10
-  pub move-short : (at device : Point) → length (move_of pen at device).words ≤ 10
+  -- how many words a move has, of which there are at most 10
+  pub move-length : (at device : Point) → length (move_of pen at device).words ≡ length (closing_words pen) + 3
   unfolding move_of
-  move-short at device = simp length-append (omega (arith, closing-short))
+  move-length at device = rw length-append
 
-  -- those of a line
-  pub line-short : (at device : Point) → length (line_of pen at device).words ≤ 10
+  pub move-short : (at device : Point) → length (move_of pen at device).words ≤ 10
+  move-short at device = omega (arith, move-length at device, closing-short)
+
+  -- a line
+  pub line-length : (at device : Point) → length (line_of pen at device).words ≡ length (flush_words pen)
   unfolding line_of
-  line-short at device = omega (arith, flushing-short)
+  line-length at device = refl
 
-  -- of a curve
-  pub curve-short : (first second end : Point) → length (curve_of pen first second end).words ≤ 10
+  pub line-short : (at device : Point) → length (line_of pen at device).words ≤ 10
+  line-short at device = omega (arith, line-length at device, flushing-short)
+
+  -- a curve
+  pub curve-length : (first second end : Point) →
+      length (curve_of pen first second end).words ≡ length (flush_words pen) + 7
   unfolding curve_of
-  curve-short first second end = simp length-append (omega (arith, flushing-short))
+  curve-length first second end = rw length-append
 
-  -- and of a finish
-  pub finish-short : length (finish_of pen).words ≤ 10
+  pub curve-short : (first second end : Point) → length (curve_of pen first second end).words ≤ 10
+  curve-short first second end = omega (arith, curve-length first second end, flushing-short)
+
+  -- and a finish
+  pub finish-length : length (finish_of pen).words ≡ length (closing_words pen) + 1
   unfolding finish_of
-  finish-short = simp length-append (omega (arith, closing-short))
+  finish-length = rw length-append
+
+  pub finish-short : length (finish_of pen).words ≤ 10
+  finish-short = omega (arith, finish-length, closing-short)

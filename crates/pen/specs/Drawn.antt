@@ -1,25 +1,24 @@
 -- The outcome of a stroke (01, "Path records"), which room commits or not.
-use Rattle.std.specs.Prelude.{◌≡◌, cond, List, ℕ, ℤ, length}
+use Rattle.std.specs.Prelude.{◌≡◌, cond, List, ℕ, ℤ, length, Result, Ok, Err}
 use Rattle.pen.specs.declared.strokes.Pen.{Pen}
 use Rattle.pen.specs.declared.drawn.Drawn.{Drawn}
-use Rattle.pen.specs.declared.drawn.CallAnswer.{CallAnswer}
-use Rattle.pen.specs.declared.drawn.CallAnswer.TheVariants.{Wrote, NoRoom}
+use Rattle.pen.specs.declared.drawn.NoRoom.{NoRoom}
 use Rattle.pen.specs.Records.{written, fits}
 use Rattle.pen.specs.Strokes.{Stroke}
 
 -- ---- the answer of a call that writes records
 -- 01's number: 0 is OK, 6 NO_ROOM
-abbrev pub call_number : CallAnswer → ℕ
-call_number (Wrote n) = 0
-call_number NoRoom = 6
+abbrev pub call_number : Result ℕ NoRoom → ℕ
+call_number (Ok n) = 0
+call_number (Err e) = 6
 
 -- the words written, 0 if refused
-abbrev pub call_words : CallAnswer → ℕ
-call_words (Wrote n) = n
-call_words NoRoom = 0
+abbrev pub call_words : Result ℕ NoRoom → ℕ
+call_words (Ok n) = n
+call_words (Err e) = 0
 
 -- 01's place
-abbrev pub call_place : CallAnswer → ℕ
+abbrev pub call_place : Result ℕ NoRoom → ℕ
 call_place a = 0
 
 -- the outcome of a stroke: with room for its words they are written and the pen is the stroke's;

@@ -7,6 +7,6 @@ mod records;
 mod strokes;
 
 pub use counting::{Counted, Trail};
-pub use drawn::{CallAnswer, Drawn};
-pub use records::{BARE_RECORD, CURVE_RECORD, POINT_RECORD};
-pub use strokes::{CLOSE, CURVE, FINISH, LINE, MOVE, Path, Pen, Point, Start, Waiting};
+pub use drawn::{Drawn, NoRoom};
+pub use records::{BARE_RECORD, CURVE_RECORD, POINT_RECORD, Record};
+pub use strokes::{Path, Pen, Point, WaitingLine};

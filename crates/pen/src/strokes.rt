@@ -1,33 +1,24 @@
 // Start point, waiting line, and the strokes that change them.
-ghost use Rattle.std.specs.Prelude.{◌≡◌, ◌≤◌, length};
+ghost use Rattle.std.specs.Prelude.{◌≡◌, ◌≤◌, length, Err};
 ghost use Rattle.pen.specs.Records.{written};
 ghost use Rattle.pen.specs.Strokes.{same_point, new_pen, closing_words, flush_words, move_of, line_of, curve_of};
 ghost use Rattle.pen.specs.Strokes.{finish_of};
 ghost use Rattle.pen.specs.Drawn.{Drew};
+ghost use Rattle.pen.specs.Counting.{trail_of};
 
-use crate::drawn::{CallAnswer, Drawn};
-use crate::records::{BARE_RECORD, CURVE_RECORD, POINT_RECORD, write_curve, write_point};
+use crate::counting::Trail;
+use crate::drawn::{Drawn, NoRoom};
+use crate::records::{BARE_RECORD, CURVE_RECORD, POINT_RECORD, Record, write_curve, write_point};
 use fixed::Fixed;
 
-// The kinds of records.
-pub const MOVE: i32 = 1;
-
-pub const LINE: i32 = 2;
-
-pub const CURVE: i32 = 3;
-
-pub const CLOSE: i32 = 4;
-
-pub const FINISH: i32 = 5;
-
-#[derive(Clone, Copy)]
+#[derive(Clone, Copy, Debug, PartialEq, Eq)]
 pub struct Point {
     pub x: Fixed,
     pub y: Fixed,
 }
 
 // What a call asks of the pen.
-#[derive(Clone, Copy)]
+#[derive(Clone, Copy, Debug, PartialEq, Eq)]
 pub enum Path {
     Move(Point),
     Line(Point),
@@ -35,37 +26,18 @@ pub enum Path {
     Finish,
 }
 
-// The start of the open path, in character space.
-#[derive(Clone, Copy)]
-pub enum Start {
-    Absent,
-    At(Point),
+// A line that waits, in character space and on the device.
+#[derive(Clone, Copy, Debug, PartialEq, Eq)]
+pub struct WaitingLine {
+    pub at: Point,
+    pub device: Point,
 }
 
-// The line that waits, in character space and on the device.
-#[derive(Clone, Copy)]
-pub enum Waiting {
-    Absent,
-    Line(Point, Point),
-}
-
-#[derive(Clone, Copy)]
+// The start of the open path, in character space, and the line that waits.
+#[derive(Clone, Copy, Debug, PartialEq, Eq)]
 pub struct Pen {
-    pub start: Start,
-    pub waiting: Waiting,
-}
-
-impl Point {
-    pub(crate) fn same(self, other: Point) -> bool
-        ensures { result ≡ same_point self other }
-    {
-        let x = other.x;
-        let y = other.y;
-        if self.x.same(x) {
-            return self.y.same(y);
-        }
-        false
-    }
+    pub start: Option<Point>,
+    pub waiting: Option<WaitingLine>,
 }
 
 impl Pen {
@@ -73,49 +45,46 @@ impl Pen {
         ensures { result ≡ new_pen }
     {
         Pen {
-            start: Start::Absent,
-            waiting: Waiting::Absent,
+            start: None,
+            waiting: None,
+        }
+    }
+
+    // What of it decides how many words a call writes.
+    fn trail(self) -> Trail
+        ensures { result ≡ trail_of self }
+    {
+        Trail {
+            start: self.start,
+            waiting: self.waiting.map(|line| line.at),
         }
     }
 
     // How many words a flush writes.
+    #[tactic(auto, using(crate::proofs::Counts::flush_counted))]
     fn flush_len(self) -> usize
         ensures { result ≡ length (flush_words self) }
     {
-        let waiting = self.waiting;
-        match waiting {
-            Waiting::Absent => 0,
-            Waiting::Line(_, _) => POINT_RECORD,
-        }
+        self.trail().flush_count()
     }
 
     // Ports `flush_pending_line`.
+    #[tactic(auto, unfolding(crate::specs::Strokes::flush_words, crate::specs::Records::written))]
     fn flush(self, out: &mut [i32])
         requires { length (flush_words self) ≤ length out.old }
         ensures { out.new ≡ written (flush_words self) out.old }
     {
-        let waiting = self.waiting;
-        let Waiting::Line(_, device) = waiting else {
-            return;
-        };
-        write_point(out, LINE, device);
+        if let Some(line) = self.waiting {
+            write_point(out, Record::Line, line.device);
+        }
     }
 
     // How many words a close writes: none without a start, and no line that leads to the start.
+    #[tactic(auto, using(crate::proofs::Counts::close_counted))]
     fn close_len(self) -> usize
         ensures { result ≡ length (closing_words self) }
     {
-        let start = self.start;
-        let waiting = self.waiting;
-        let Start::At(from) = start else {
-            return 0;
-        };
-        if let Waiting::Line(at, _) = waiting {
-            if at.same(from) {
-                return BARE_RECORD;
-            }
-        }
-        self.flush_len() + BARE_RECORD
+        self.trail().close_count()
     }
 
     // Ports `maybe_close_subpath`: nothing, a close alone, or a line and a close.
@@ -128,20 +97,20 @@ impl Pen {
             return;
         }
         if count == BARE_RECORD {
-            out[0] = CLOSE;
+            out[0] = Record::Close as i32;
             return;
         }
         self.flush(out);
-        out[POINT_RECORD] = CLOSE;
+        out[POINT_RECORD] = Record::Close as i32;
     }
 
     // Where the words of a stroke do not fit, the pen stays as it is.
     fn refused(self) -> Drawn
-        ensures { result ≡ record { pen = self; answer = CallAnswer.NoRoom } }
+        ensures { result ≡ record { pen = self; answer = Err (record {}) } }
     {
         Drawn {
             pen: self,
-            answer: CallAnswer::NoRoom,
+            answer: Err(NoRoom),
         }
     }
 
@@ -155,14 +124,13 @@ impl Pen {
             return self.refused();
         }
         self.close(out);
-        write_point(&mut out[closed..], MOVE, device);
-        let pen = Pen {
-            start: Start::At(at),
-            waiting: Waiting::Absent,
-        };
+        write_point(&mut out[closed..], Record::Move, device);
         Drawn {
-            pen,
-            answer: CallAnswer::Wrote(count),
+            pen: Pen {
+                start: Some(at),
+                waiting: None,
+            },
+            answer: Ok(count),
         }
     }
 
@@ -175,14 +143,12 @@ impl Pen {
             return self.refused();
         }
         self.flush(out);
-        let start = self.start;
-        let pen = Pen {
-            start,
-            waiting: Waiting::Line(at, device),
-        };
         Drawn {
-            pen,
-            answer: CallAnswer::Wrote(count),
+            pen: Pen {
+                waiting: Some(WaitingLine { at, device }),
+                ..self
+            },
+            answer: Ok(count),
         }
     }
 
@@ -197,14 +163,12 @@ impl Pen {
         }
         self.flush(out);
         write_curve(&mut out[flushed..], first, second, end);
-        let start = self.start;
-        let pen = Pen {
-            start,
-            waiting: Waiting::Absent,
-        };
         Drawn {
-            pen,
-            answer: CallAnswer::Wrote(count),
+            pen: Pen {
+                waiting: None,
+                ..self
+            },
+            answer: Ok(count),
         }
     }
 
@@ -218,10 +182,10 @@ impl Pen {
             return self.refused();
         }
         self.close(out);
-        out[closed] = FINISH;
+        out[closed] = Record::Finish as i32;
         Drawn {
             pen: Pen::new(),
-            answer: CallAnswer::Wrote(count),
+            answer: Ok(count),
         }
     }
 }

@@ -5,7 +5,7 @@ use mathlib.Core.List.{List, ◌∷◌}
 use Prim.Native.Nat.{ℕ, ◌+◌, ◌*◌, ◌≤◌, ◌<◌}
 use native.Mathlib.Omega.{arith}
 use lib.ListN.{drop}
-use Rattle.words.specs.declared.answer.Answer.TheVariants.{Ok}
+use Rattle.std.specs.Prelude.{Ok}
 use Rattle.words.specs.Words.{raw_at}
 use Rattle.words.specs.Answers.{first_of}
 use Rattle.words.proofs.Words.{raw-drop, from-length}
@@ -19,7 +19,7 @@ use Rattle.readback.specs.ReadBack.{script_piece, WholeCommands}
 use Rattle.readback.proofs.Shortened.{pieces_left, all_left, none_left, first-left}
 
 -- ---- a script that passes all tests
-module _ (s : List ℕ) (e : first_of (check_rows s) ≡ Ok) where
+module _ (s : List ℕ) (e : first_of (check_rows s) ≡ Ok tt) where
   -- its words from the first command on
   abbrev pub behind : ℕ → ℕ
   behind = raw_at (drop (4 * raw_at s 4) s)

@@ -10,14 +10,14 @@ use lib.IntN.{ℤ}
 use lib.ListN.{length, take, drop, length-drop, length-map}
 use lib.Seq.{length-take-le}
 use borrow.Author.Tests.{lt-ltb, le-ltb, ltb-false}
+use Rattle.std.specs.Prelude.{Ok, Err}
 use Rattle.fixed.specs.declared.Fixed.{Fixed}
 use Rattle.fixed.specs.Integers.{signed}
 use Rattle.zones.specs.declared.state.HintParams.{HintParams}
-use Rattle.words.specs.declared.answer.Answer.{Answer}
-use Rattle.words.specs.declared.answer.Answer.TheVariants.{Ok, NoRoom}
+use Rattle.words.specs.declared.answer.Refusal.TheVariants.{NoRoom}
 use Rattle.words.specs.Words.{raw_at}
 use Rattle.words.specs.Rows.{Row, row, first_or, row_at}
-use Rattle.words.specs.Answers.{first_of, number_of}
+use Rattle.words.specs.Answers.{Answer, first_of, number_of}
 use Rattle.words.proofs.Rows.{none-holds, found, onward}
 use Rattle.words.proofs.Answers.{both_ok}
 use Rattle.header.proofs.Tests.{refusing}
@@ -36,7 +36,7 @@ module _ (s : List ℕ) where
   commands-length = length-map (shortened (script_pieces s)) signed
 
   -- and as many mask bytes as word 7 says
-  pub masks-length : first_of (check_rows s) ≡ Ok → length (given_in s).masks ≡ raw_at s 7
+  pub masks-length : first_of (check_rows s) ≡ Ok tt → length (given_in s).masks ≡ raw_at s 7
   unfolding given_in
   masks-length e =
       length-take-le (raw_at s 7) (drop (4 * raw_at s 6) s)
@@ -54,23 +54,24 @@ module _ (s : List ℕ) where
     -- ---- the tests of room
     abbrev room_rows : List (Row Answer)
     room_rows =
-        row (ltb words (length (given_in s).commands)) (NoRoom 5) ∷
-        row (ltb bytes (length (given_in s).masks)) (NoRoom 7) ∷
+        row (ltb words (length (given_in s).commands)) (Err (NoRoom 5)) ∷
+        row (ltb bytes (length (given_in s).masks)) (Err (NoRoom 7)) ∷
         []
 
     -- a refusal of the script stands
-    pub by-fault : (first_of (check_rows s) ≡ Ok → ⊥) → first_of (read_rows s words bytes) ≡ first_of (check_rows s)
+    pub by-fault : (first_of (check_rows s) ≡ Ok tt → ⊥) → first_of (read_rows s words bytes) ≡ first_of (check_rows s)
     unfolding read_rows
-    by-fault h = found Ok (check_rows s) room_rows h
+    by-fault h = found (Ok tt) (check_rows s) room_rows h
 
-    module _ (e : first_of (check_rows s) ≡ Ok) where
+    module _ (e : first_of (check_rows s) ≡ Ok tt) where
       -- an accepted script is answered by its room
       by-room : first_of (read_rows s words bytes) ≡ first_of room_rows
       unfolding read_rows
-      by-room = onward Ok (check_rows s) room_rows (checks-refusing s) e
+      by-room = onward (Ok tt) (check_rows s) room_rows (checks-refusing s) e
 
       -- too few words
-      pub few_words : words < length (shortened (script_pieces s)) → NoRoom 5 ≡ first_of (read_rows s words bytes)
+      pub few_words : words < length (shortened (script_pieces s)) →
+          (Err (NoRoom 5)) ≡ first_of (read_rows s words bytes)
       unfolding first_or
       few_words h =
           sym (by-room ∙ rw (lt-ltb words (length (given_in s).commands) (omega (arith, commands-length))))
@@ -81,33 +82,33 @@ module _ (s : List ℕ) where
         first_passes = le-ltb words (length (given_in s).commands) (omega (arith, commands-length))
 
         -- too few bytes
-        pub few_bytes : bytes < raw_at s 7 → NoRoom 7 ≡ first_of (read_rows s words bytes)
+        pub few_bytes : bytes < raw_at s 7 → (Err (NoRoom 7)) ≡ first_of (read_rows s words bytes)
         unfolding first_or
         few_bytes k =
             sym (by-room ∙
             rw (first_passes, lt-ltb bytes (length (given_in s).masks) (omega (arith, masks-length e))))
 
         -- enough of both
-        pub enough : raw_at s 7 ≤ bytes → Ok ≡ first_of (read_rows s words bytes)
+        pub enough : raw_at s 7 ≤ bytes → (Ok tt) ≡ first_of (read_rows s words bytes)
         unfolding first_or
         enough k =
             sym (by-room ∙
             rw (first_passes, le-ltb bytes (length (given_in s).masks) (omega (arith, masks-length e))))
 
     -- where the answer is Ok
-    module _ (e : first_of (read_rows s words bytes) ≡ Ok) where
+    module _ (e : first_of (read_rows s words bytes) ≡ Ok tt) where
       -- both lists give it
-      both : (first_of (check_rows s) ≡ Ok) × (first_of room_rows ≡ Ok)
+      both : (first_of (check_rows s) ≡ Ok tt) × (first_of room_rows ≡ Ok tt)
       unfolding read_rows
       both = both_ok (check_rows s) room_rows (checks-refusing s) e
 
       -- the script is accepted
-      pub accepted : first_of (check_rows s) ≡ Ok
+      pub accepted : first_of (check_rows s) ≡ Ok tt
       accepted = both.0
 
       -- no test of room holds
-      passes : (k : ℕ) → (row_at Ok room_rows k).fault ≡ false
-      passes = none-holds Ok room_rows (refusing room_rows refl) both.1
+      passes : (k : ℕ) → (row_at (Ok tt) room_rows k).fault ≡ false
+      passes = none-holds (Ok tt) room_rows (refusing room_rows refl) both.1
 
       -- its words have room
       pub words-fit : length (shortened (script_pieces s)) ≤ words
@@ -121,8 +122,8 @@ module _ (s : List ℕ) where
 -- what is said of a script that is read
 pub said-is : (g : Given) {scale : Fixed} {params : HintParams} {commands masks : ℕ} → scale ≡ g.scale →
     params ≡ g.params → commands ≡ length g.commands → masks ≡ length g.masks →
-    record { answer = Ok; scale = scale; params = params; commands = commands; masks = masks } ≡
-    (read_by false Ok g [] []).said
+    record { answer = Ok tt; scale = scale; params = params; commands = commands; masks = masks } ≡
+    (read_by false (Ok tt) g [] []).said
 said-is g a b c d = rw (a, b, c, d)
 
 module _ (s : List ℕ) (cs : List ℤ) (ms : List ℕ) where
@@ -136,6 +137,6 @@ module _ (s : List ℕ) (cs : List ℤ) (ms : List ℕ) where
   read-refused a e h = rw (sym e, refused a h) (record { answer = refl; words = refl; bytes = refl })
 
   -- what has room is read
-  pub read-given : answered ≡ Ok → read_back_of s cs ms ≡ read_by false Ok (given_in s) cs ms
+  pub read-given : answered ≡ Ok tt → read_back_of s cs ms ≡ read_by false (Ok tt) (given_in s) cs ms
   unfolding read_back_of
   read-given e = rw e

@@ -166,9 +166,11 @@ module _ (w : ℕ → ℕ) (first n : ℕ) where
 
       -- behind it the walk goes on
       pub walk-next : {k given many : ℕ} → k ≡ kind → given ≡ given_operands k → many ≡ operands_of k →
-          Walk w first n (done + 1 + given) (at + 1 + many)
+          Walk w first n (done + (1 + given)) (at + (1 + many))
       walk-next e f g =
-          rw (f, g, e)
+          let k : done + (1 + given_operands kind) ≡ done + 1 + given_operands kind = omega arith in
+          let m : at + (1 + operands_of kind) ≡ at + 1 + operands_of kind = omega arith in
+          rw (f, g, e, k, m)
           (record {
             whole = whole-left w first n at h a.whole;
             inside = walk-there;
@@ -179,13 +181,15 @@ module _ (w : ℕ → ℕ) (first n : ℕ) where
       -- its words placed, and behind them those of the rest
       pub walk-placed : {k given many : ℕ} → k ≡ kind → given ≡ given_operands k → many ≡ operands_of k →
           (lent : List ℤ) → length (shortened (pieces_from w first n)) ≤ length lent →
-          placed (placed lent done (map signed here)) (done + 1 + given)
-          (map signed (shortened (pieces_left w first n (at + 1 + many)))) ≡
+          placed (placed lent done (map signed here)) (done + (1 + given))
+          (map signed (shortened (pieces_left w first n (at + (1 + many))))) ≡
           placed lent done (map signed (shortened (pieces_left w first n at)))
       walk-placed e f g lent r =
           let m = length-map here signed in
           let l = unstarted-length w (first + at) in
-          rw (f, g, e)
+          let k : done + (1 + given_operands kind) ≡ done + 1 + given_operands kind = omega arith in
+          let t : at + (1 + operands_of kind) ≡ at + 1 + operands_of kind = omega arith in
+          rw (f, g, e, k, t)
           (placed-behind lent done (map signed here) (omega (arith, walk-room)) (map signed rest)
           (done + 1 + given_operands kind) (omega arith) ∙
           ap (placed lent done) (sym (map-append signed here rest) ∙ ap (map signed) (sym split)))

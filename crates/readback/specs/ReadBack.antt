@@ -1,16 +1,16 @@
 -- A script read back as what the writer takes (request 1).
 use Rattle.std.specs.Prelude.{◌≡◌, Bool, true, false, List, [], ◌∷◌, ◌++◌, map, ℕ, ◌+◌, ◌*◌, ◌≤◌, ltb, ℤ, pos, length}
+use Rattle.std.specs.Prelude.{Err}
 use Rattle.std.specs.Prelude.{take, drop, replicate}
 use Rattle.fixed.specs.Integers.{signed}
 use Rattle.fixed.specs.Fixed.{ZERO}
 use Rattle.zones.specs.declared.blues.Blues.{Blues}
 use Rattle.zones.specs.declared.state.HintParams.{HintParams}
 use Rattle.zones.specs.Zones.{max_blues, no_blue}
-use Rattle.words.specs.declared.answer.Answer.{Answer}
-use Rattle.words.specs.declared.answer.Answer.TheVariants.{NoRoom}
+use Rattle.words.specs.declared.answer.Refusal.TheVariants.{NoRoom}
 use Rattle.words.specs.Words.{raw_at, number_at, words_from}
 use Rattle.words.specs.Rows.{Row, row}
-use Rattle.words.specs.Answers.{first_of, refuses}
+use Rattle.words.specs.Answers.{Answer, first_of, refuses}
 use Rattle.words.specs.Bytes.{over}
 use Rattle.header.specs.Params.{params_of}
 use Rattle.commands.specs.Commands.{operands_of}
@@ -48,8 +48,8 @@ given_in s =
 unfoldable pub read_rows : List ℕ → ℕ → ℕ → List (Row Answer)
 read_rows s words bytes =
     check_rows s ++
-    (row (ltb words (length (given_in s).commands)) (NoRoom 5) ∷
-    row (ltb bytes (length (given_in s).masks)) (NoRoom 7) ∷
+    (row (ltb words (length (given_in s).commands)) (Err (NoRoom 5)) ∷
+    row (ltb bytes (length (given_in s).masks)) (Err (NoRoom 7)) ∷
     [])
 
 -- parameters that are all 0

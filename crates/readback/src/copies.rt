@@ -18,10 +18,11 @@ pub(crate) fn count_short(script: &[u8], first: usize, n: usize) -> usize
 {
     let mut count = 0;
     let mut at = 0;
+    // A kind says how far the next piece is, so the index goes by what is read.
     while at < n {
         let kind = natural(script, first + at);
-        count = count + 1 + given_operands(kind);
-        at = at + 1 + operands(kind);
+        count += 1 + given_operands(kind);
+        at += 1 + operands(kind);
     }
     count
 }
@@ -53,11 +54,12 @@ pub(crate) fn copy_commands(script: &[u8], first: usize, n: usize, commands: &mu
 {
     let mut to = 0;
     let mut at = 0;
+    // A kind says how far the next piece is, so the index goes by what is read.
     while at < n {
         let kind = natural(script, first + at);
         copy_piece(script, first + at, commands, to);
-        to = to + 1 + given_operands(kind);
-        at = at + 1 + operands(kind);
+        to += 1 + given_operands(kind);
+        at += 1 + operands(kind);
     }
     to
 }

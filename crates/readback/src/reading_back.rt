@@ -1,6 +1,5 @@
 // Reading a script back.
-ghost use Rattle.std.specs.Prelude.{◌≡◌, false, length};
-ghost use Rattle.words.specs.declared.answer.Answer.TheVariants.{Ok};
+ghost use Rattle.std.specs.Prelude.{◌≡◌, false, length, Ok};
 ghost use Rattle.words.specs.Answers.{first_of};
 ghost use Rattle.script.specs.Script.{check_rows};
 ghost use Rattle.readback.specs.ReadBack.{no_params, refused_back, read_rows, read_back_of, read_by, given_in, ReadAs};
@@ -9,13 +8,14 @@ use crate::copies::{copy_commands, count_short};
 use fixed::Fixed;
 use header::read_params;
 use script::check_script;
-use words::{Answer, copy_bytes, layout, natural, number};
+use words::{Answer, Refusal, copy_bytes, layout, natural, number};
 use zones::{Blue, Blues, HintParams, MAX_BLUES};
 
 // What a script says beside its command words and mask bytes, and how many of these there are;
 // zeros beside a refusal.
 #[derive(Clone, Copy)]
 pub struct ReadBack {
+    // A refusal has zeros beside it (docs/RULES.md, R11), so that no Result is around the whole.
     pub answer: Answer,
     pub scale: Fixed,
     pub params: HintParams,
@@ -62,24 +62,24 @@ fn refused(answer: Answer) -> ReadBack
 
 // Whether the commands and the mask bytes of a script that passes all tests have room.
 fn check_room(script: &[u8], words: usize, bytes: usize) -> Answer
-    requires { first_of (check_rows script.now) ≡ Ok }
+    requires { first_of (check_rows script.now) ≡ Ok tt }
     ensures { result ≡ first_of (read_rows script.now words bytes) }
 {
     let first = natural(script, layout::COMMANDS_START);
     let count = natural(script, layout::COMMANDS_COUNT);
     if words < count_short(script, first, count) {
-        return Answer::NoRoom(layout::COMMANDS_COUNT);
+        return Err(Refusal::NoRoom(layout::COMMANDS_COUNT));
     }
     if bytes < natural(script, layout::MASKS_COUNT) {
-        return Answer::NoRoom(layout::MASKS_COUNT);
+        return Err(Refusal::NoRoom(layout::MASKS_COUNT));
     }
-    Answer::Ok
+    Ok(())
 }
 
 // Such a script with room for both.
 fn copied(script: &[u8], commands: &mut [i32], masks: &mut [u8]) -> ReadBack
-    requires { first_of (read_rows script.now (length commands.old) (length masks.old)) ≡ Ok }
-    ensures { ReadAs (read_by false Ok (given_in script.now) commands.old
+    requires { first_of (read_rows script.now (length commands.old) (length masks.old)) ≡ Ok tt }
+    ensures { ReadAs (read_by false (Ok tt) (given_in script.now) commands.old
         masks.old) result commands.new masks.new }
 {
     let first = natural(script, layout::COMMANDS_START);
@@ -90,7 +90,7 @@ fn copied(script: &[u8], commands: &mut [i32], masks: &mut [u8]) -> ReadBack
     let words = copy_commands(script, first, count, commands);
     copy_bytes(&script[from..end], masks);
     ReadBack {
-        answer: Answer::Ok,
+        answer: Ok(()),
         scale: number(script, layout::SCALE),
         params: read_params(script),
         commands: words,
@@ -105,11 +105,11 @@ pub fn read_back(script: &[u8], commands: &mut [i32], masks: &mut [u8]) -> ReadB
         commands.new masks.new }
 {
     let fault = check_script(script);
-    if fault.code() != 0 {
+    if fault.is_err() {
         return refused(fault);
     }
     let room = check_room(script, commands.len(), masks.len());
-    if room.code() != 0 {
+    if room.is_err() {
         return refused(room);
     }
     copied(script, commands, masks)

@@ -7,7 +7,7 @@ use native.Mathlib.Omega.{arith}
 use lib.ListN.{length, take}
 use lib.Seq.{take_at}
 use borrow.Author.Tests.{le-ltb}
-use Rattle.words.specs.declared.answer.Answer.TheVariants.{Ok}
+use Rattle.std.specs.Prelude.{Ok}
 use Rattle.words.specs.Words.{raw_at, words_from}
 use Rattle.words.specs.Rows.{Row, first_or}
 use Rattle.words.specs.Answers.{first_of}
@@ -20,8 +20,7 @@ use Rattle.header.proofs.Fine.{params-refusing}
 use Rattle.commands.specs.Commands.{operands_of}
 use Rattle.script.specs.Script.{check_rows}
 use Rattle.script.proofs.Passed.{passed}
-use Rattle.writer.specs.declared.write_answer.WriteAnswer.{WriteAnswer}
-use Rattle.writer.specs.declared.write_answer.WriteAnswer.TheVariants.{Written}
+use Rattle.writer.specs.Refusals.{WriteAnswer}
 use Rattle.writer.specs.Pieces.{Piece, pieces_of, joined, starts_from, given_operands, unstarted}
 use Rattle.writer.specs.ToWrite.{Given, pieces_in, command_words, script_for}
 use Rattle.writer.specs.Refusals.{WriteResult, write_number, given_rows, piece_rows, room_row, write_rows, write_answer}
@@ -45,7 +44,7 @@ over-told : (xs ys lent : List ℕ) → length xs ≡ length ys → over xs lent
 unfolding over
 over-told xs ys lent l e = sym (take_at xs _ (length ys) l) ∙ ap (take (length ys)) e ∙ take_at ys _ (length ys) refl
 
-module _ (s : List ℕ) (held : Bytes s) (e : first_of (check_rows s) ≡ Ok) where
+module _ (s : List ℕ) (held : Bytes s) (e : first_of (check_rows s) ≡ Ok tt) where
   -- ---- what is read back of it
   abbrev g : Given
   g = given_in s
@@ -97,7 +96,7 @@ module _ (s : List ℕ) (held : Bytes s) (e : first_of (check_rows s) ≡ Ok) wh
   given-pass : NoneHold (given_rows g.scale g.params)
   unfolding given_in given_rows param_rows params_of blues_at
   given-pass =
-      let f = none-holds Ok (param_rows (raw_at s)) (params-refusing s) (passed s e).params in
+      let f = none-holds (Ok tt) (param_rows (raw_at s)) (params-refusing s) (passed s e).params in
       (f 0, (f 1, (f 2, (f 3, (f 4, tt)))))
 
   -- those of the pieces are those of the given pieces
@@ -106,18 +105,18 @@ module _ (s : List ℕ) (held : Bytes s) (e : first_of (check_rows s) ≡ Ok) wh
 
   module _ (lent : List ℕ) (room : length s ≤ length lent) where
     -- it is written where none of them holds
-    fits : NoneHold (piece_rows 0 (raw_at s 7) bare) → write_answer g (length lent) ≡ Written (length s)
+    fits : NoneHold (piece_rows 0 (raw_at s 7) bare) → write_answer g (length lent) ≡ Ok (length s)
     fits t =
         let rs = given_rows g.scale g.params in
         let qs = piece_rows 0 (length g.masks) (pieces_in g.commands) in
-        by-room g (length lent) (none-answer (Written 0) (before g) (none_both rs qs given-pass (rw rows-given t))) ∙
+        by-room g (length lent) (none-answer (Ok 0) (before g) (none_both rs qs given-pass (rw rows-given t))) ∙
         rw (size, le-ltb (length lent) (length s) room, le-ltb 65536 (length s) (passed s e).fine.short)
 
     -- and BAD_MASK is answered where one does
     fitting : (write_number (write_answer g (length lent)) ≡ 5 → ⊥) → NoneHold (piece_rows 0 (raw_at s 7) bare)
     unfolding write_answer write_rows
     fitting n =
-        let ok = Written (length (script_for g)) in
+        let ok = Ok (length (script_for g)) in
         let last = room_row (length (script_for g)) (length lent) ∷ [] in
         let qs = piece_rows 0 (length g.masks) (pieces_in g.commands) in
         let a : write_answer g (length lent) ≡ first_or ok (piece_rows 0 (raw_at s 7) bare ++ last) =
@@ -140,7 +139,7 @@ module _ (s : List ℕ) (held : Bytes s) (e : first_of (check_rows s) ≡ Ok) wh
     pub end_to_end : WrittenAgain s lent → EndToEnd s
     unfolding write_of
     end_to_end q =
-        let a : write_answer g (length lent) ≡ Written (length s) = ap (λ (r : WriteResult). r.answer) q in
+        let a : write_answer g (length lent) ≡ Ok (length s) = ap (λ (r : WriteResult). r.answer) q in
         let o : over (script_for g) lent ≡ over s lent = rw a at (ap (λ (r : WriteResult). r.left) q) in
         let i = over-told (script_for g) s lent size o in
         let b : ps ≡ starts_from 0 bare =
@@ -151,7 +150,7 @@ module _ (s : List ℕ) (held : Bytes s) (e : first_of (check_rows s) ≡ Ok) wh
 
 -- ---- the law of its answer
 -- an answer that is not BAD_MASK is that as many bytes are written as the script has
-pub otherwise : (s lent : List ℕ) → Bytes s → length s ≤ length lent → first_of (check_rows s) ≡ Ok →
+pub otherwise : (s lent : List ℕ) → Bytes s → length s ≤ length lent → first_of (check_rows s) ≡ Ok tt →
     (write_number (write_answer (given_in s) (length lent)) ≡ 5 → ⊥) →
-    write_answer (given_in s) (length lent) ≡ Written (length s)
+    write_answer (given_in s) (length lent) ≡ Ok (length s)
 otherwise s lent held room e n = fits s held e lent room (fitting s held e lent room n)

@@ -9,8 +9,8 @@ use native.Mathlib.Omega.{arith}
 use lib.Dec.{eqb, ltb}
 use lib.ListN.{length, get_or, length-append}
 use borrow.Author.Tests.{ne_eqb, le-ltb, lt-leb}
+use Rattle.std.specs.Prelude.{Ok}
 use Rattle.fixed.proofs.Tests.{both_false}
-use Rattle.words.specs.declared.answer.Answer.TheVariants.{Ok}
 use Rattle.words.specs.Words.{raw_at, words_from}
 use Rattle.words.specs.Answers.{first_of}
 use Rattle.words.proofs.Words.{raw-drop, from-length}
@@ -217,7 +217,7 @@ module _ (w : ℕ → ℕ) (i : ℕ) where
       go false e = refl
 
 -- where it passes all tests
-module _ (s : List ℕ) (held : Bytes s) (e : first_of (check_rows s) ≡ Ok) where
+module _ (s : List ℕ) (held : Bytes s) (e : first_of (check_rows s) ≡ Ok tt) where
   -- its first command word, how many there are, and the words from there on
   abbrev first_word : ℕ
   first_word = raw_at s 4

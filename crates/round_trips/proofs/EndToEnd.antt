@@ -11,7 +11,7 @@ use Rattle.words.specs.Rows.{Row, first_or}
 use Rattle.header.specs.Header.{outside}
 use Rattle.header.proofs.Tests.{before-end}
 use Rattle.commands.specs.Commands.{operands_of}
-use Rattle.writer.specs.declared.write_answer.WriteAnswer.{WriteAnswer}
+use Rattle.writer.specs.Refusals.{WriteAnswer}
 use Rattle.writer.specs.Pieces.{Piece, joined, Whole, is_mask, given_operands, starts_from, unstarted}
 use Rattle.writer.specs.Refusals.{write_number, piece_rows}
 use Rattle.writer.proofs.PieceFaults.{NoneHold, taken-left}

@@ -10,12 +10,12 @@ use lib.IntN.{pos}
 use lib.ListN.{length, take, drop, replicate, length-append, length-replicate, length-drop, take-append-drop}
 use lib.Seq.{drop_at, drop-drop}
 use borrow.Author.Tests.{eqb-true, not-false}
+use Rattle.std.specs.Prelude.{Ok}
 use Rattle.fixed.specs.declared.Fixed.{Fixed}
 use Rattle.fixed.specs.Integers.{bits_of}
 use Rattle.fixed.specs.Fixed.{from_bits, less_f}
 use Rattle.fixed.proofs.Tests.{both_false}
 use Rattle.zones.specs.declared.state.HintParams.{HintParams}
-use Rattle.words.specs.declared.answer.Answer.TheVariants.{Ok}
 use Rattle.words.specs.Words.{raw_at, negative, words_from}
 use Rattle.words.specs.Bytes.{bytes_of}
 use Rattle.words.specs.Answers.{first_of}
@@ -219,8 +219,8 @@ in-fours n e = alike (n % 4) 0 (both_false (outside 32 65536 n) (differs (n % 4)
 pub layout : (s : List ℕ) → Passed s → Layout s
 unfolding header_rows param_rows
 layout s p =
-    let f = none-holds Ok (header_rows s) (header-refusing s) p.header in
-    let g = none-holds Ok (param_rows (raw_at s)) (params-refusing s) p.params in
+    let f = none-holds (Ok tt) (header_rows s) (header-refusing s) p.header in
+    let g = none-holds (Ok tt) (param_rows (raw_at s)) (params-refusing s) p.params in
     let n = in-fours (length s) (f 0) in
     let b = both_false (negative (raw_at s 7)) (differs (raw_at s 6 + padded (raw_at s 7)) (length s / 4)) (f 7) in
     let m = alike (raw_at s 6 + padded (raw_at s 7)) (length s / 4) b.1 in
@@ -243,7 +243,7 @@ zero-bytes (b ∷ l) e = go (eqb b 0) refl e (λ q. zero-bytes l q)
     go true f e h = let z = eqb-true b 0 f in let k = h e in cc
     go false f e h = absurd (true≢false (sym e))
 
-module _ (s : List ℕ) (held : Bytes s) (e : first_of (check_rows s) ≡ Ok) where
+module _ (s : List ℕ) (held : Bytes s) (e : first_of (check_rows s) ≡ Ok tt) where
   abbrev w : ℕ → ℕ
   w = raw_at s
 

@@ -8,9 +8,9 @@ use native.Mathlib.Omega.{arith}
 use lib.IntN.{pos}
 use lib.ListN.{length, drop, replicate}
 use borrow.Author.Tests.{le-ltb}
+use Rattle.std.specs.Prelude.{Ok}
 use Rattle.fixed.specs.declared.Fixed.{Fixed}
 use Rattle.fixed.specs.Fixed.{from_bits, less_f}
-use Rattle.words.specs.declared.answer.Answer.TheVariants.{Ok}
 use Rattle.words.specs.Words.{raw_at, number_at}
 use Rattle.words.specs.Answers.{first_of}
 use Rattle.header.specs.Header.{length_bad, all_zero, padded, header_rows}
@@ -116,6 +116,6 @@ module _ (c : Contents) (scale : Held c.scale) (params : HeldParams c.params) (f
   unfolding check_rows
   by-commands =
       let rows = command_rows (raw_at s 7) (commands_in s) in
-      none-onward Ok (header_rows s) (param_rows (raw_at s) ++ rows) header-passes ∙
-      none-onward Ok (param_rows (raw_at s)) rows params-pass ∙
+      none-onward (Ok tt) (header_rows s) (param_rows (raw_at s) ++ rows) header-passes ∙
+      none-onward (Ok tt) (param_rows (raw_at s)) rows params-pass ∙
       ap (λ (n : ℕ). first_of (command_rows n (commands_in s))) there.masks

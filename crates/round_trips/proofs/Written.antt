@@ -7,8 +7,8 @@ use Prim.Native.Nat.{ℕ, ◌+◌, ◌*◌, ◌≤◌}
 use native.Mathlib.Omega.{arith}
 use lib.ListN.{length, take, drop}
 use lib.Seq.{take_at}
+use Rattle.std.specs.Prelude.{Ok}
 use Rattle.fixed.specs.Integers.{bits_of, signed}
-use Rattle.words.specs.declared.answer.Answer.TheVariants.{Ok}
 use Rattle.words.specs.Words.{raw_at}
 use Rattle.words.specs.Answers.{first_of}
 use Rattle.commands.specs.Commands.{operands_of}
@@ -75,12 +75,12 @@ module _ (g : Given) (h : HeldGiven g) (c : Unrefused g) where
       (commands-read q holds) (omega arith)))
 
   -- none of whose tests holds, so it is accepted
-  accepted : first_of (check_rows s) ≡ Ok
+  accepted : first_of (check_rows s) ≡ Ok tt
   accepted =
       let n = length g.masks in
       let few : n ≤ 65536 = omega (arith, script-length g, c.short) in
       by-commands q h.scale h.params holds ∙
-      none-answer Ok (command_rows n (commands_in s)) (rw commands-there
+      none-answer (Ok tt) (command_rows n (commands_in s)) (rw commands-there
       (pieces-pass 0 (8 + param_count q) 0 n n (pieces_in g.commands) c.pieces (omega arith) few))
 
   -- ---- what it says

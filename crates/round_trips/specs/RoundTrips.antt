@@ -1,14 +1,13 @@
 -- Request 1's round trips: what is written reads back and makes the calls that were given, and a
 -- script that is read back is written as the same bytes exactly if its masks lie end to end.
 use Rattle.std.specs.Prelude.{◌≡◌, List, [], ◌∷◌, ◌++◌, map, ℕ, ◌+◌, ◌-◌, ◌<◌, pos, length, take, drop, get_or}
-use Rattle.std.specs.Prelude.{replicate}
+use Rattle.std.specs.Prelude.{replicate, Ok}
 use Rattle.std.specs.Int.{w32}
 use Rattle.std.proofs.Common.{SFits}
 use Rattle.fixed.specs.declared.Fixed.{Fixed}
 use Rattle.zones.specs.declared.blues.Blues.{Blues}
 use Rattle.zones.specs.declared.state.HintParams.{HintParams}
 use Rattle.zones.specs.Zones.{max_blues, no_blue, list_of}
-use Rattle.words.specs.declared.answer.Answer.TheVariants.{Ok}
 use Rattle.words.specs.Words.{raw_at}
 use Rattle.words.specs.Answers.{first_of}
 use Rattle.words.specs.Bytes.{over}
@@ -19,7 +18,6 @@ use Rattle.commands.specs.Commands.{CommandAt, command_of}
 use Rattle.hints.specs.Calls.{Call}
 use Rattle.run.specs.Run.{Asked, call_of}
 use Rattle.script.specs.Script.{commands_in, calls_in, check_rows}
-use Rattle.writer.specs.declared.write_answer.WriteAnswer.TheVariants.{Written}
 use Rattle.writer.specs.Pieces.{Piece, piece_words, bytes_taken, started}
 use Rattle.writer.specs.ToWrite.{Given, given, pieces_in, script_for}
 use Rattle.writer.specs.Refusals.{write_of}
@@ -95,7 +93,7 @@ calls_made s = map (λ (a : Asked). a.call) (calls_in s)
 
 -- 01's reader accepts a script, which says what was given, and its run makes the calls that were
 pub record SaysBack (g : Given) (s : List ℕ) : Type 0 where
-  pub accepted : first_of (check_rows s) ≡ Ok
+  pub accepted : first_of (check_rows s) ≡ Ok tt
   pub same : given_in s ≡ kept g
   pub calls : calls_made s ≡ calls_given g.masks (pieces_in g.commands)
 
@@ -137,4 +135,4 @@ EndToEnd s = LieFrom 0 (raw_at s 7) (parts_of (commands_in s))
 
 -- read back and written over a buffer, it is the same bytes
 abbrev pub WrittenAgain : List ℕ → List ℕ → Type 0
-WrittenAgain s lent = write_of (given_in s) lent ≡ record { answer = Written (length s); left = over s lent }
+WrittenAgain s lent = write_of (given_in s) lent ≡ record { answer = Ok (length s); left = over s lent }

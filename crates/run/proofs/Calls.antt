@@ -9,6 +9,7 @@ use native.Mathlib.Omega.{arith}
 use lib.IntN.{ℤ}
 use lib.ListN.{length, take, drop}
 use borrow.Author.Tests.{le-leb}
+use Rattle.std.specs.Prelude.{Ok, Err}
 use Rattle.zones.specs.declared.state.HintState.{HintState}
 use Rattle.pen.specs.declared.strokes.Pen.{Pen}
 use Rattle.pen.specs.Strokes.{Stroke}
@@ -22,7 +23,7 @@ use Rattle.pen.proofs.Drew.{DrewWords, DrewNothing}
 use Rattle.hints.proofs.Steps.{ready-idle, ready-twice}
 use Rattle.hints.specs.declared.drawing.Drawing.{Drawing}
 use Rattle.hints.specs.Calls.{Call, draw, ready_for, hints_of, still, stroke_of}
-use Rattle.words.specs.declared.answer.Answer.TheVariants.{Ok, NoRoom}
+use Rattle.words.specs.declared.answer.Refusal.TheVariants.{NoRoom}
 use Rattle.run.specs.Room.{Step}
 use Rattle.run.specs.Run.{Asked, steps_of, wants_map}
 use Rattle.run.proofs.Filling.{Along, following, placed, placed-none, wrote, Stopped, refused, done}
@@ -124,13 +125,13 @@ module _ {st : HintState} {all : List Step} {out₀ : List ℤ} {place : ℕ} {p
     -- and one that did not
     pub denied : {said : Drawn} {exit : List ℤ} →
         DrewNothing (stroke_by h.map st.scale pen path) pen (drop next out) said exit →
-        Stopped all out₀ (NoRoom place) next out
+        Stopped all out₀ (Err (NoRoom place)) next out
     denied d =
         refused (following (steps_first st h pen place (draw path) cs (stroke_by h.map st.scale pen path) h by_map
         idle) g.along) d.fit
 
 -- after the last call
 pub finished : {st : HintState} {all : List Step} {out₀ : List ℤ} {h : Hints} {pen : Pen} {next : ℕ} {out : List ℤ} →
-    Standing st all out₀ [] h pen next out → Stopped all out₀ Ok next out
+    Standing st all out₀ [] h pen next out → Stopped all out₀ (Ok tt) next out
 unfolding steps_of
 finished g = done g.along

@@ -11,11 +11,12 @@ use lib.IntN.{ℤ}
 use lib.ListN.{length, take, drop, length-append, length-drop, take-append-drop}
 use lib.Seq.{length-take-le, take_at, drop_at}
 use borrow.Author.Tests.{leb-true}
-use Rattle.words.specs.declared.answer.Answer.{Answer}
-use Rattle.words.specs.declared.answer.Answer.TheVariants.{Ok, NoRoom}
+use Rattle.std.specs.Prelude.{Ok, Err}
+use Rattle.words.specs.declared.answer.Refusal.TheVariants.{NoRoom}
 use Rattle.pen.specs.Records.{written, fits}
 use Rattle.pen.proofs.Words.{written_both}
 use Rattle.run.specs.Room.{Step, Fitted, fit_by, fitted}
+use Rattle.words.specs.Answers.{Answer}
 
 -- how a run stands: what the commands from here on make of the words from next on is what all
 -- commands make of all words
@@ -143,11 +144,11 @@ stopped {next = next} {out = out} answer a e =
 -- at a command that does not fit
 pub refused : {all : List Step} {out₀ : List ℤ} {rest : List Step} {next : ℕ} {out : List ℤ} {t : Step} →
     Along all out₀ (t ∷ rest) next out → fits t.words (drop next out) ≡ false →
-    Stopped all out₀ (NoRoom t.place) next out
-refused {t = t} a f = stopped (NoRoom t.place) a (by-room a false f)
+    Stopped all out₀ (Err (NoRoom t.place)) next out
+refused {t = t} a f = stopped (Err (NoRoom t.place)) a (by-room a false f)
 
 -- and after the last command
 pub done : {all : List Step} {out₀ : List ℤ} {next : ℕ} {out : List ℤ} → Along all out₀ [] next out →
-    Stopped all out₀ Ok next out
+    Stopped all out₀ (Ok tt) next out
 unfolding fitted
-done a = stopped Ok a refl
+done a = stopped (Ok tt) a refl

@@ -7,6 +7,7 @@ use mathlib.Core.List.{List, ◌++◌}
 use Prim.Native.Nat.{ℕ, ◌+◌, ◌<◌}
 use lib.IntN.{ℤ}
 use lib.ListN.{length, take, drop, replicate, take-append-drop}
+use Rattle.std.specs.Prelude.{Err}
 use Rattle.stems.specs.Lists.{Whole}
 use Rattle.zones.specs.declared.state.HintState.{HintState}
 use Rattle.pen.specs.declared.strokes.Pen.{Pen}
@@ -16,13 +17,13 @@ use Rattle.pen.specs.Strokes.{new_pen}
 use Rattle.pen.proofs.Drew.{DrewWords, DrewNothing}
 use Rattle.hints.specs.declared.hints.Hints.{Hints}
 use Rattle.hints.specs.Path.{has_point, stroke_by}
-use Rattle.words.specs.declared.answer.Answer.TheVariants.{NoRoom}
+use Rattle.words.specs.declared.answer.Refusal.TheVariants.{NoRoom}
 use Rattle.commands.specs.declared.reading.Marking.{Marking}
 use Rattle.commands.specs.declared.reading.Command.TheVariants.{Mark, Draw}
 use Rattle.commands.specs.Commands.{read_at, next_at}
 use Rattle.run.specs.declared.kept.Sizes.{Sizes}
 use Rattle.run.specs.Run.{Runnable, wants_map, is_close}
-use Rattle.run.specs.Kept.{no_sizes, Kept, Spare, Mappable, Marked, Readied}
+use Rattle.run.specs.Kept.{no_sizes, Kept, Mappable, Marked, Readied}
 use Rattle.run.proofs.Clearing.{cleared-kept}
 use Rattle.run.proofs.Turns.{Going, going, Gives, close-idle, turn-mark, turn-ready, turn-drew, turn-refused}
 
@@ -38,16 +39,16 @@ module _ (st : HintState) (s : List ℕ) (w : ℕ → ℕ) (first n from : ℕ) 
     pub twelve : length bs ≡ 12
 
   -- before the first command
-  pub starts : (ns is ms : List ℤ) (ts : List ℕ) (by : List ℤ) → Runnable s w first n from → Spare ns is ms ts by →
-      Running (replicate 12 255) ns is ms ts no_sizes new_pen 0 0 out₀
-  starts ns is ms ts by r p =
+  pub starts : (ns is ms : List ℤ) (ts : List ℕ) → Runnable s w first n from → length ns ≡ 480 → Whole is ts →
+      length ms ≡ 288 → Running (replicate 12 255) ns is ms ts no_sizes new_pen 0 0 out₀
+  starts ns is ms ts r long whole current =
       record {
         hints = _;
         goes = going st s w first n from r out₀;
         kept = cleared-kept st ns is ms refl;
-        whole = p.whole;
-        long = p.long;
-        current = p.current;
+        whole = whole;
+        long = long;
+        current = current;
         twelve = refl;
       }
 
@@ -133,8 +134,8 @@ module _ (st : HintState) (s : List ℕ) (w : ℕ → ℕ) (first n from : ℕ) 
       pub refuses : {path : Path} (said : Drawn) (exit : List ℤ) → (read_at w n at).command ≡ Draw path →
           wants_map z.valid path ≡ false →
           DrewNothing (stroke_by g.hints.map st.scale pen path) pen (drop next out) said exit →
-          Gives st s w first n from out₀ (NoRoom (first + at)) next (take next out ++ exit)
+          Gives st s w first n from out₀ (Err (NoRoom (first + at))) next (take next out ++ exit)
       refuses {path} said exit e u d =
-          subst (Gives st s w first n from out₀ (NoRoom (first + at)) next)
+          subst (Gives st s w first n from out₀ (Err (NoRoom (first + at))) next)
           (sym (ap (λ (x : List ℤ). take next out ++ x) d.left ∙ take-append-drop next out))
           (turn-refused g.goes i e (no-map path u) d)

@@ -6,7 +6,7 @@ use mathlib.Core.List.{List, [], ◌∷◌}
 use Prim.Native.Nat.{ℕ, ◌+◌, ◌-◌, ◌≤◌, ◌<◌}
 use native.Mathlib.Omega.{arith}
 use lib.ListN.{length}
-use Rattle.words.specs.declared.answer.Answer.TheVariants.{Ok}
+use Rattle.std.specs.Prelude.{Ok}
 use Rattle.words.specs.Answers.{first_of}
 use Rattle.commands.specs.declared.reading.Marking.{Marking}
 use Rattle.commands.specs.declared.reading.Marking.TheVariants.{Bad, Stem, Mask, Counter, Clear, Close}
@@ -53,7 +53,7 @@ module _ (s : List ℕ) (w : ℕ → ℕ) (first n from : ℕ) where
   pub record Sound (at : ℕ) : Type 0 where
     pub bytes : ℕ
     pub inside : from + bytes ≤ length s
-    pub fine : first_of (command_rows bytes (commands_at at)) ≡ Ok
+    pub fine : first_of (command_rows bytes (commands_at at)) ≡ Ok tt
 
   pub sound : Runnable s w first n from → Sound 0
   sound r =

@@ -9,12 +9,13 @@ use native.Mathlib.Omega.{arith}
 use lib.Dec.{leb}
 use lib.ListN.{length, length-append}
 use borrow.Author.Tests.{leb-true, leb-false, le-leb, lt-leb}
-use Rattle.words.specs.declared.answer.Answer.TheVariants.{Ok, NoRoom}
+use Rattle.std.specs.Prelude.{Ok, Err}
+use Rattle.words.specs.declared.answer.Refusal.TheVariants.{NoRoom}
 use Rattle.run.specs.Room.{Step, words_along, Fitted, fit_by, fitted}
 
 -- all records fit
 pub fits_whole : (room : ℕ) (ts : List Step) → length (words_along ts) ≤ room →
-    fitted room ts ≡ record { said = Ok; words = words_along ts }
+    fitted room ts ≡ record { said = Ok tt; words = words_along ts }
 unfolding fitted
 fits_whole room [] h = refl
 fits_whole room (t ∷ ts) h =
@@ -25,7 +26,7 @@ fits_whole room (t ∷ ts) h =
 -- those of some commands do, and those of the next do not
 pub fits-until : (room : ℕ) (before : List Step) (at : Step) (after : List Step) → length (words_along before) ≤ room →
     room < length (words_along before) + length at.words →
-    fitted room (before ++ at ∷ after) ≡ record { said = NoRoom at.place; words = words_along before }
+    fitted room (before ++ at ∷ after) ≡ record { said = Err (NoRoom at.place); words = words_along before }
 unfolding fitted
 fits-until room [] at after h k = rw (lt-leb (length at.words) room (omega arith))
 fits-until room (t ∷ before) at after h k =

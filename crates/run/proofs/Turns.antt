@@ -7,6 +7,7 @@ use Prim.Native.Nat.{ℕ, ◌+◌, ◌≤◌, ◌<◌}
 use native.Mathlib.Omega.{arith}
 use lib.IntN.{ℤ}
 use lib.ListN.{take, drop}
+use Rattle.std.specs.Prelude.{Ok, Err}
 use Rattle.zones.specs.declared.state.HintState.{HintState}
 use Rattle.pen.specs.declared.strokes.Pen.{Pen}
 use Rattle.pen.specs.Strokes.{new_pen}
@@ -18,8 +19,7 @@ use Rattle.hints.specs.Path.{has_point, stroke_by}
 use Rattle.hints.specs.Calls.{hints_of, still, stroke_of}
 use Rattle.hints.specs.Calls.{new_drawing}
 use Rattle.pen.proofs.Drew.{DrewWords, DrewNothing}
-use Rattle.words.specs.declared.answer.Answer.{Answer}
-use Rattle.words.specs.declared.answer.Answer.TheVariants.{Ok, NoRoom}
+use Rattle.words.specs.declared.answer.Refusal.TheVariants.{NoRoom}
 use Rattle.words.proofs.Answers.{says}
 use Rattle.commands.specs.declared.reading.Marking.{Marking}
 use Rattle.commands.specs.declared.reading.Marking.TheVariants.{Bad, Stem, Mask, Counter, Clear, Close}
@@ -31,6 +31,7 @@ use Rattle.run.specs.Run.{mark_call, call_of, calls_of, steps_of, ran_of, Ended,
 use Rattle.run.proofs.Reading.{calls_at, calls-start, calls-first, calls-none, Sound, sound, sound-behind}
 use Rattle.run.proofs.Filling.{begun, following, Stopped}
 use Rattle.run.proofs.Calls.{Standing, standing, marked, readied, drew, denied, finished}
+use Rattle.words.specs.Answers.{Answer}
 
 -- what writes nothing leaves the pen as it is
 pub mark-still : (st : HintState) (h : Hints) (pen : Pen) (s : List ℕ) (from : ℕ) (m : Marking) →
@@ -111,11 +112,11 @@ module _ {st : HintState} {s : List ℕ} {w : ℕ → ℕ} {first n from : ℕ} 
       -- and one that did not
       pub turn-refused : {said : Drawn} {exit : List ℤ} →
           DrewNothing (stroke_by h.map st.scale pen path) pen (drop next out) said exit →
-          Gives st s w first n from out₀ (NoRoom (first + at)) next out
+          Gives st s w first n from out₀ (Err (NoRoom (first + at))) next out
       turn-refused d = gives st s w first n from (denied (calls e) u d)
 
   -- after the last command
-  pub turn-done : n ≤ at → Gives st s w first n from out₀ Ok next out
+  pub turn-done : n ≤ at → Gives st s w first n from out₀ (Ok tt) next out
   turn-done i = gives st s w first n from (finished (standing (calls-none s w first n from i) g.stands))
 
 -- ---- a map is made at most once for a call

@@ -1,6 +1,6 @@
 -- The hints of a run, kept in lists (01, "Stems and masks", "The map"): which hints they are, and what
 -- each command that changes them leaves.
-use Rattle.std.specs.Prelude.{◌≡◌, Bool, true, false, List, ℕ, ◌+◌, ◌≤◌, ℤ, length}
+use Rattle.std.specs.Prelude.{◌≡◌, Bool, true, false, List, ℕ, ◌≤◌, ℤ, pos, length, replicate}
 use Rattle.fixed.specs.declared.Fixed.{Fixed}
 use Rattle.stems.specs.declared.mask.HintMask.{HintMask}
 use Rattle.stems.specs.Edge.{max_hints}
@@ -9,13 +9,25 @@ use Rattle.stems.specs.Lists.{Whole, stems_in}
 use Rattle.zones.specs.declared.state.HintState.{HintState}
 use Rattle.hintmap.specs.declared.map.HintMap.{HintMap}
 use Rattle.hintmap.specs.Lent.{Rises, LinesOf}
-use Rattle.build.specs.Made.{SameDeclared, NoteRoom}
+use Rattle.build.specs.Made.{SameDeclared}
 use Rattle.hints.specs.declared.hints.Hints.{Hints}
 use Rattle.hints.specs.Hints.{with_stem, with_mask, with_initial, countered, ready_of}
 use Rattle.hints.specs.Calls.{hints_of}
 use Rattle.commands.specs.declared.reading.Marking.{Marking}
+use Rattle.run.specs.declared.kept.KeptLists.{KeptLists}
 use Rattle.run.specs.declared.kept.Sizes.{Sizes}
-use Rattle.run.specs.Run.{mask_end, mark_call}
+use Rattle.run.specs.Run.{mark_call}
+
+-- lists of zeros
+abbrev pub no_lists : KeptLists
+no_lists =
+    record {
+      stems = replicate 480 (pos 0);
+      initial = replicate 288 (pos 0);
+      map = replicate 288 (pos 0);
+      tags = replicate 192 0;
+      notes = replicate 96 (pos 0);
+    }
 
 abbrev pub no_sizes : Sizes
 no_sizes = record { stems = 0; initial = 0; based = false; map = 0; valid = false }
@@ -68,13 +80,6 @@ pub record Countered (st : HintState) (m : HintMask) (z : Sizes) (is ns : List �
   pub kept : (h : Hints) (bs : List ℕ) (ms : List ℤ) → Kept st h z bs ns is ms →
       Kept st (countered st m h) z' bs ns' is' ms
 
--- lists in which a run can keep its stems and build its maps, whatever they hold
-pub record Spare (ns is ms : List ℤ) (ts : List ℕ) (by : List ℤ) : Type 0 where
-  pub long : length ns ≡ 480
-  pub whole : Whole is ts
-  pub current : length ms ≡ 288
-  pub notes : NoteRoom by
-
 -- lists in which the current map can be built
 pub record Mappable (z : Sizes) (ms is : List ℤ) (ts : List ℕ) (ns : List ℤ) (bs : List ℕ) : Type 0 where
   pub build : Buildable z is ts ns
@@ -89,14 +94,7 @@ pub record Readied (st : HintState) (z : Sizes) (is : List ℤ) (bs : List ℕ) 
   pub kept : (h : Hints) (ms : List ℤ) → z.valid ≡ false → Kept st h z bs ns is ms →
       Kept st (ready_of st h) z' bs ns' is' ms'
 
--- what a command that writes nothing has
-pub record Markable (s : List ℕ) (from : ℕ) (m : Marking) (z : Sizes) (bs : List ℕ) (ns is : List ℤ) (ts : List ℕ) :
-    Type 0 where
-  pub named : from + mask_end m ≤ length s
-  pub build : Buildable z is ts ns
-  pub twelve : length bs ≡ mask_size
-
--- and what it leaves
+-- what a command that writes nothing leaves
 pub record Marked (st : HintState) (s : List ℕ) (from : ℕ) (m : Marking) (z : Sizes) (bs : List ℕ) (ns is : List ℤ)
     (z' : Sizes) (bs' : List ℕ) (ns' is' : List ℤ) (ts' : List ℕ) : Type 0 where
   pub whole : Whole is' ts'

@@ -1,7 +1,7 @@
 -- Room for the record words of a run's calls (01's table, NO_ROOM).
-use Rattle.std.specs.Prelude.{Bool, true, false, List, [], ◌∷◌, ◌++◌, ℕ, ◌-◌, leb, ℤ, length}
-use Rattle.words.specs.declared.answer.Answer.{Answer}
-use Rattle.words.specs.declared.answer.Answer.TheVariants.{Ok, NoRoom}
+use Rattle.std.specs.Prelude.{Bool, true, false, List, [], ◌∷◌, ◌++◌, ℕ, ◌-◌, leb, ℤ, length, Ok, Err}
+use Rattle.words.specs.declared.answer.Refusal.TheVariants.{NoRoom}
+use Rattle.words.specs.Answers.{Answer}
 
 -- the record words of one call, and its place
 pub record Step : Type 0 where
@@ -20,9 +20,9 @@ pub record Fitted : Type 0 where
 
 abbrev pub fit_by : Bool → Step → Fitted → Fitted
 fit_by true t rest = record { said = rest.said; words = t.words ++ rest.words }
-fit_by false t rest = record { said = NoRoom t.place; words = [] }
+fit_by false t rest = record { said = Err (NoRoom t.place); words = [] }
 
 -- what fits into a room, call by call
 unfoldable pub fitted : ℕ → List Step → Fitted
-fitted room [] = record { said = Ok; words = [] }
+fitted room [] = record { said = Ok tt; words = [] }
 fitted room (t ∷ ts) = fit_by (leb (length t.words) room) t (fitted (room - length t.words) ts)

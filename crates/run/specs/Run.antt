@@ -1,6 +1,6 @@
 -- A run of calls over a new drawing (01, "The script"): the record words of each call, and those
 -- for which there is room. A script's commands are one list of calls.
-use Rattle.std.specs.Prelude.{◌≡◌, Bool, true, false, List, [], ◌∷◌, ℕ, ◌+◌, ◌≤◌, ◌<◌, ℤ, length, take, drop}
+use Rattle.std.specs.Prelude.{◌≡◌, Bool, true, false, List, [], ◌∷◌, ℕ, ◌+◌, ◌≤◌, ◌<◌, ℤ, length, take, drop, Ok}
 use Rattle.stems.specs.declared.mask.HintMask.{HintMask}
 use Rattle.stems.specs.Mask.{mask_of}
 use Rattle.zones.specs.declared.state.HintState.{HintState}
@@ -10,7 +10,6 @@ use Rattle.hints.specs.declared.drawing.Drawing.{Drawing}
 use Rattle.hints.specs.Path.{has_point}
 use Rattle.hints.specs.Calls.{Call, stem, hint_mask, counter_mask, clear, close, draw, next_of, words_for}
 use Rattle.hints.specs.Calls.{new_drawing}
-use Rattle.words.specs.declared.answer.Answer.TheVariants.{Ok}
 use Rattle.words.specs.Answers.{Says, first_of}
 use Rattle.commands.specs.declared.reading.Marking.{Marking}
 use Rattle.commands.specs.declared.reading.Marking.TheVariants.{Bad, Stem, Mask, Counter, Clear, Close}
@@ -96,7 +95,7 @@ pub record Runnable (s : List ℕ) (w : ℕ → ℕ) (first n from : ℕ) : Type
   pub start : first < 2147483648
   pub bytes : ℕ
   pub inside : from + bytes ≤ length s
-  pub faultless : first_of (command_rows bytes (commands_of first w n)) ≡ Ok
+  pub faultless : first_of (command_rows bytes (commands_of first w n)) ≡ Ok tt
 
 -- a call has points, and the map that carries them is not valid
 abbrev pub wants_map : Bool → Path → Bool

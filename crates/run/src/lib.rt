@@ -7,5 +7,5 @@ mod marks;
 mod running;
 
 pub use hinting::hints_after;
-pub use kept::Sizes;
+pub use kept::{KeptLists, Sizes};
 pub use running::{Ran, run, run_given};

@@ -1,13 +1,14 @@
 // The commands that write nothing, and the masks that they name.
 ghost use Rattle.std.specs.Prelude.{◌≡◌, ◌+◌, ◌≤◌, length, take, drop};
 ghost use Rattle.zones.specs.Numbers.{state_in};
+ghost use Rattle.stems.specs.Edge.{max_hints};
 ghost use Rattle.build.specs.Made.{NoteRoom};
-ghost use Rattle.run.specs.Run.{mask_at};
-ghost use Rattle.run.specs.Kept.{Markable, Marked};
+ghost use Rattle.run.specs.Run.{mask_at, mask_end};
+ghost use Rattle.run.specs.Kept.{Marked};
 
-use crate::kept::{Sizes, mask_to_all};
+use crate::kept::{KeptLists, Sizes, mask_to_all};
 use commands::Marking;
-use stems::{HINT_MASK_SIZE, HintMask, LINES, MAX_HINTS, STEM_NUMBERS, TAGS};
+use stems::{HINT_MASK_SIZE, HintMask};
 use zones::{Gauge, ZONE_NUMBERS};
 
 // The very bytes of the script that a mask command names.
@@ -36,24 +37,21 @@ pub(crate) fn marked(
     gauge: Gauge,
     zones: &[i32; ZONE_NUMBERS],
     mask: &mut [u8; HINT_MASK_SIZE],
-    stems: &mut [i32; STEM_NUMBERS],
-    initial: &mut [i32; LINES],
-    tags: &mut [u8; TAGS],
-    notes: &mut [i32; MAX_HINTS],
+    lists: &mut KeptLists,
 ) -> Sizes
-    requires { Markable script.now from marking sizes mask.old stems.old initial.old tags.old ×
-        NoteRoom notes.old }
+    requires { (from + mask_end marking ≤ length script.now) × (sizes.initial ≤ max_hints) }
     ensures { Marked (state_in gauge zones.now) script.now from marking sizes
-        mask.old stems.old initial.old result mask.new stems.new
-        initial.new tags.new × NoteRoom notes.new }
+        mask.old lists.old.stems lists.old.initial result mask.new lists.new.stems
+        lists.new.initial lists.new.tags ×
+        ((lists.new.map ≡ lists.old.map) × NoteRoom lists.new.notes) }
 {
     match marking {
         Marking::Bad => sizes,
-        Marking::Stem(min, max) => sizes.with_stem(stems, min, max),
+        Marking::Stem(min, max) => sizes.with_stem(&mut lists.stems, min, max),
         Marking::Mask { start, len } => sizes.with_mask(mask, mask_at(script, from, start, len)),
         Marking::Counter { start, len } => {
             let given = mask_at(script, from, start, len);
-            sizes.counter(initial, tags, gauge, zones, given, stems, notes)
+            sizes.counter(lists, gauge, zones, given)
         }
         Marking::Clear => {
             mask_to_all(mask);

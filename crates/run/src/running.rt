@@ -3,16 +3,15 @@ ghost use Rattle.std.specs.Prelude.{◌≡◌, ◌*◌, ◌≤◌, length};
 ghost use Rattle.zones.specs.Numbers.{state_in};
 ghost use Rattle.words.specs.Words.{raw_at, given_word};
 ghost use Rattle.commands.specs.Commands.{word_by, count_by, commands_of};
-ghost use Rattle.run.specs.Kept.{Spare};
 ghost use Rattle.run.specs.Run.{calls_of, wants_map, is_close, ran_of, Ended, Runnable};
 
-use crate::kept::Sizes;
+use crate::kept::{KeptLists, Sizes};
 use crate::marks::marked;
-use commands::{Command, Marking, read_by};
+use commands::{Command, Marking, Words, read_by};
 use hints::draw_by_lines;
-use pen::{CallAnswer, Path, Pen};
-use stems::{HINT_MASK_SIZE, LINES, MAX_HINTS, STEM_NUMBERS, TAGS};
-use words::Answer;
+use pen::{Path, Pen};
+use stems::HINT_MASK_SIZE;
+use words::{Answer, Refusal};
 use zones::{Gauge, HintState, ZONE_NUMBERS};
 
 // How a run ended: the answer, and the record words that were written.
@@ -41,51 +40,35 @@ pub(crate) fn wants_map(path: Path, valid: bool) -> bool
 fn is_close(marking: Marking) -> bool
     ensures { result ≡ is_close marking }
 {
-    match marking {
-        Marking::Bad => false,
-        Marking::Stem(_, _) => false,
-        Marking::Mask { start: _, len: _ } => false,
-        Marking::Counter { start: _, len: _ } => false,
-        Marking::Clear => false,
-        Marking::Close => true,
-    }
+    matches!(marking, Marking::Close)
 }
 
-// Runs `n` command words, the first of which is called word `first`, of a part of a script or of a list
-// as the mark says. Their masks are bytes of the script, from byte `from` on. The state is its numbers
-// and a list of zones.
+// Runs `n` command words, the first of which is called word `first`. Their masks are bytes of the script,
+// from byte `from` on. The state is its numbers and a list of zones.
 fn run_by(
     script: &[u8],
-    part: &[u8],
-    words: &[i32],
-    as_words: bool,
+    words: Words,
     first: usize,
     n: usize,
     from: usize,
     gauge: Gauge,
     zones: &[i32; ZONE_NUMBERS],
-    stems: &mut [i32; STEM_NUMBERS],
-    initial: &mut [i32; LINES],
-    map: &mut [i32; LINES],
-    tags: &mut [u8; TAGS],
-    notes: &mut [i32; MAX_HINTS],
+    lists: &mut KeptLists,
     out: &mut [i32],
 ) -> Ran
-    requires { (n ≤ count_by as_words part.now words.now) ×
-        (Runnable script.now (word_by as_words part.now words.now) first n from ×
-        Spare stems.old initial.old map.old tags.old notes.old) }
+    requires { (n ≤ count_by words) × Runnable script.now (word_by words) first n from }
     ensures { Ended (ran_of (state_in gauge zones.now) (calls_of script.now from
-        (commands_of first (word_by as_words part.now words.now) n)) out.old) result
-        out.new ×
-        Spare stems.new initial.new map.new tags.new notes.new }
+        (commands_of first (word_by words.entry) n)) out.old) result
+        out.new }
 {
     let mut mask = [255u8; HINT_MASK_SIZE];
     let mut sizes = Sizes::none();
     let mut pen = Pen::new();
     let mut next = 0;
     let mut at = 0;
+    // A command says how many words it has, and one that wants a map is read again once it has it.
     while at < n {
-        let read = read_by(part, words, as_words, n, at);
+        let read = read_by(words, n, at);
         let command = read.command;
         match command {
             Command::Mark(marking) => {
@@ -93,20 +76,17 @@ fn run_by(
                     at = read.next;
                     continue;
                 }
-                sizes = marked(
-                    sizes, script, from, marking, gauge, zones, &mut mask, stems, initial, tags,
-                    notes,
-                );
+                sizes = marked(sizes, script, from, marking, gauge, zones, &mut mask, lists);
                 at = read.next;
             }
             Command::Draw(path) => {
                 if wants_map(path, sizes.valid) {
-                    sizes = sizes.ready(map, initial, tags, gauge, zones, &mask, stems, notes);
+                    sizes = sizes.ready(lists, gauge, zones, &mask);
                     continue;
                 }
                 let scale = gauge.scale;
                 let drawn = draw_by_lines(
-                    map,
+                    &lists.map,
                     sizes.map,
                     scale,
                     scale,
@@ -116,20 +96,20 @@ fn run_by(
                     true,
                 );
                 let answer = drawn.answer;
-                let CallAnswer::Wrote(count) = answer else {
+                let Ok(count) = answer else {
                     return Ran {
-                        answer: Answer::NoRoom(first + at),
+                        answer: Err(Refusal::NoRoom(first + at)),
                         words: next,
                     };
                 };
                 pen = drawn.pen;
-                next = next + count;
+                next += count;
                 at = read.next;
             }
         }
     }
     Ran {
-        answer: Answer::Ok,
+        answer: Ok(()),
         words: next,
     }
 }
@@ -152,66 +132,44 @@ pub fn run(
 {
     let mut zones = [0i32; ZONE_NUMBERS];
     state.list(&mut zones);
-    let mut stems = [0i32; STEM_NUMBERS];
-    let mut initial = [0i32; LINES];
-    let mut map = [0i32; LINES];
-    let mut tags = [0u8; TAGS];
-    let mut notes = [0i32; MAX_HINTS];
+    let mut lists = KeptLists::new();
     run_by(
         script,
-        part,
-        &[],
-        false,
+        Words::Script(part),
         first,
         n,
         from,
         state.gauge(),
         &zones,
-        &mut stems,
-        &mut initial,
-        &mut map,
-        &mut tags,
-        &mut notes,
+        &mut lists,
         out,
     )
 }
 
 // Runs all of some words, which are commands with the masks of some bytes. A state's numbers and its
-// zones, listed once, serve any number of runs, and so do the lists that are lent for stems and maps.
+// zones, listed once, serve any number of runs, and so do the lists that are lent for its hints.
 pub fn run_given(
     masks: &[u8],
     words: &[i32],
     gauge: Gauge,
     zones: &[i32; ZONE_NUMBERS],
-    stems: &mut [i32; STEM_NUMBERS],
-    initial: &mut [i32; LINES],
-    map: &mut [i32; LINES],
-    tags: &mut [u8; TAGS],
-    notes: &mut [i32; MAX_HINTS],
+    lists: &mut KeptLists,
     out: &mut [i32],
 ) -> Ran
-    requires { Runnable masks.now (given_word words.now) 0 (length words.now) 0 ×
-        Spare stems.old initial.old map.old tags.old notes.old }
+    requires { Runnable masks.now (given_word words.now) 0 (length words.now) 0 }
     ensures { Ended (ran_of (state_in gauge zones.now) (calls_of masks.now 0
         (commands_of 0 (given_word words.now) (length words.now))) out.old) result
-        out.new ×
-        Spare stems.new initial.new map.new tags.new notes.new }
+        out.new }
 {
     run_by(
         masks,
-        masks,
-        words,
-        true,
+        Words::Given(words),
         0,
         words.len(),
         0,
         gauge,
         zones,
-        stems,
-        initial,
-        map,
-        tags,
-        notes,
+        lists,
         out,
     )
 }

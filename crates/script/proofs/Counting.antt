@@ -9,15 +9,7 @@ use lib.Dec.{eqb}
 use lib.IntN.{ℤ, pos, negsuc}
 use lib.ListN.{length, drop, get_or, length-drop, drop_of_length-le}
 use lib.Seq.{drop-cons, drop-drop}
-use borrow.Author.Tests.{ne_eqb}
 use Rattle.script.specs.Count.{size_by, size_of, records_by, records_in}
-
--- a word that starts no move, line or curve is a record by itself
-pub other-size : (k : ℤ) → (k ≡ pos 1 → ⊥) → (k ≡ pos 2 → ⊥) → (k ≡ pos 3 → ⊥) → size_of k ≡ 1
-unfolding size_of
-other-size (pos n) a b c =
-    rw (ne_eqb n 1 (λ e. a (ap pos e)), ne_eqb n 2 (λ e. b (ap pos e)), ne_eqb n 3 (λ e. c (ap pos e)))
-other-size (negsuc n) a b c = refl
 
 -- a record takes from 1 to 7 words
 pub sizes : (k : ℤ) → (1 ≤ size_of k) × (size_of k ≤ 7)

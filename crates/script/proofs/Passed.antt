@@ -6,11 +6,11 @@ use Prim.Native.Nat.{ℕ, ◌*◌, ◌≤◌}
 use native.Mathlib.Omega.{arith}
 use lib.IntN.{ℤ}
 use lib.ListN.{length, take, drop, length-drop}
+use Rattle.std.specs.Prelude.{Ok}
 use Rattle.fixed.specs.declared.Fixed.{Fixed}
 use Rattle.zones.specs.State.{em_box, state_by, state_of}
 use Rattle.hints.specs.declared.hints.Hints.{Hints}
 use Rattle.hints.specs.Calls.{new_drawing}
-use Rattle.words.specs.declared.answer.Answer.TheVariants.{Ok}
 use Rattle.words.specs.Words.{raw_at, number_at}
 use Rattle.words.specs.Answers.{first_of}
 use Rattle.words.proofs.Rows.{Refusing, both-refusing}
@@ -25,21 +25,21 @@ use Rattle.run.specs.Run.{steps_of, drawing_after, ending_of, ran_of, Runnable}
 use Rattle.script.specs.Script.{commands_in, calls_in, check_rows, zones_of, map_at, steps_in}
 
 -- every test of a script refuses
-pub checks-refusing : (s : List ℕ) → Refusing Ok (check_rows s)
+pub checks-refusing : (s : List ℕ) → Refusing (Ok tt) (check_rows s)
 unfolding check_rows
 checks-refusing s =
     let cs = command_rows (raw_at s 7) (commands_in s) in
-    both-refusing Ok (header_rows s) (param_rows (raw_at s) ++ cs) (header-refusing s)
-    (both-refusing Ok (param_rows (raw_at s)) cs (params-refusing s) (rows-refusing (raw_at s 7) (commands_in s)))
+    both-refusing (Ok tt) (header_rows s) (param_rows (raw_at s) ++ cs) (header-refusing s)
+    (both-refusing (Ok tt) (param_rows (raw_at s)) cs (params-refusing s) (rows-refusing (raw_at s 7) (commands_in s)))
 
 pub record Passed (s : List ℕ) : Type 0 where
-  pub header : first_of (header_rows s) ≡ Ok
-  pub params : first_of (param_rows (raw_at s)) ≡ Ok
-  pub commands : first_of (command_rows (raw_at s 7) (commands_in s)) ≡ Ok
+  pub header : first_of (header_rows s) ≡ Ok tt
+  pub params : first_of (param_rows (raw_at s)) ≡ Ok tt
+  pub commands : first_of (command_rows (raw_at s 7) (commands_in s)) ≡ Ok tt
   pub fine : Fine s
   pub whole : WholeParams s
 
-pub passed : (s : List ℕ) → first_of (check_rows s) ≡ Ok → Passed s
+pub passed : (s : List ℕ) → first_of (check_rows s) ≡ Ok tt → Passed s
 unfolding check_rows
 passed s e =
     let h = both_ok (header_rows s) (param_rows (raw_at s) ++ command_rows (raw_at s 7) (commands_in s))

@@ -9,12 +9,12 @@ use lib.IntN.{ℤ}
 use lib.ListN.{length, take, drop, length-drop}
 use lib.Seq.{length-take-le, take-append_seam, drop_at, drop-drop}
 use borrow.Author.Tests.{lt-ltb, le-ltb, eq-eqb, ne_eqb}
+use Rattle.std.specs.Prelude.{Err}
 use Rattle.pen.specs.Records.{written}
-use Rattle.words.specs.declared.answer.Answer.{Answer}
-use Rattle.words.specs.declared.answer.Answer.TheVariants.{NoRoom}
+use Rattle.words.specs.declared.answer.Refusal.TheVariants.{NoRoom}
 use Rattle.hints.specs.Calls.{new_drawing}
 use Rattle.words.specs.Words.{raw_at, number_at}
-use Rattle.words.specs.Answers.{first_of, number_of, refuses}
+use Rattle.words.specs.Answers.{Answer, first_of, number_of, refuses}
 use Rattle.words.proofs.Answers.{says}
 use Rattle.commands.proofs.Laws.{at_most}
 use Rattle.run.specs.Room.{Fitted, fitted}
@@ -43,7 +43,7 @@ module _ (s : List ℕ) (out : List ℤ) where
 
   module _ (r : refuses (first_of (check_rows s)) ≡ false) where
     -- an output of under 4 words
-    pub by_size : length out < 4 → Scripted (script_of s out) (NoRoom (raw_at s 4)) out
+    pub by_size : length out < 4 → Scripted (script_of s out) (Err (NoRoom (raw_at s 4))) out
     unfolding script_of
     by_size h =
         scripted (ap (λ (b : Bool). result_by b (ltb (length out) 4) s out) r ∙

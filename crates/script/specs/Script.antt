@@ -1,17 +1,17 @@
 -- A whole script (01, "The script"): all tests in 01's order, then the run, and what is left in
 -- every output word.
 use Rattle.std.specs.Prelude.{◌≡◌, Bool, true, false, List, ◌∷◌, ◌++◌, ℕ, ◌-◌, ◌*◌, ltb, ℤ, pos, length, take, drop}
+use Rattle.std.specs.Prelude.{Err}
 use Rattle.zones.specs.declared.state.HintState.{HintState}
 use Rattle.zones.specs.State.{state_of}
 use Rattle.pen.specs.Records.{written}
 use Rattle.hintmap.specs.declared.map.HintMap.{HintMap}
 use Rattle.hints.specs.declared.drawing.Drawing.{Drawing}
 use Rattle.hints.specs.Calls.{new_drawing}
-use Rattle.words.specs.declared.answer.Answer.{Answer}
-use Rattle.words.specs.declared.answer.Answer.TheVariants.{NoRoom}
+use Rattle.words.specs.declared.answer.Refusal.TheVariants.{NoRoom}
 use Rattle.words.specs.Words.{raw_at, number_at}
 use Rattle.words.specs.Rows.{Row}
-use Rattle.words.specs.Answers.{Says, first_of, refuses}
+use Rattle.words.specs.Answers.{Answer, Says, first_of, refuses}
 use Rattle.header.specs.Header.{header_rows}
 use Rattle.header.specs.Params.{param_rows, params_of}
 use Rattle.commands.specs.Commands.{CommandAt, commands_of}
@@ -72,7 +72,7 @@ ended_by f out = record { answer = f.said; left = left_by (refuses f.said) f.wor
 -- a fault changes no word; nor does an output of under 4 words, refused at word 4's figure
 abbrev pub result_by : Bool → Bool → List ℕ → List ℤ → Result
 result_by true small s out = record { answer = first_of (check_rows s); left = out }
-result_by false true s out = record { answer = NoRoom (raw_at s 4); left = out }
+result_by false true s out = record { answer = Err (NoRoom (raw_at s 4)); left = out }
 result_by false false s out = ended_by (fitted (length out - 4) (steps_in s)) out
 
 unfoldable pub script_of : List ℕ → List ℤ → Result

@@ -11,14 +11,8 @@ use words::{Answer, layout, natural};
 pub fn check_script(script: &[u8]) -> Answer
     ensures { result ≡ first_of (check_rows script.now) }
 {
-    let header = check_header(script);
-    if header.code() != 0 {
-        return header;
-    }
-    let params = check_params(script);
-    if params.code() != 0 {
-        return params;
-    }
+    check_header(script)?;
+    check_params(script)?;
     let first = natural(script, layout::COMMANDS_START);
     let count = natural(script, layout::COMMANDS_COUNT);
     let bytes = natural(script, layout::MASKS_COUNT);

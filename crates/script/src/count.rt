@@ -3,19 +3,17 @@ ghost use Rattle.std.specs.Prelude.{◌≡◌, ◌≤◌, take};
 ghost use Rattle.script.specs.Count.{size_of, records_in};
 
 use fixed::least;
-use pen::{BARE_RECORD, CURVE, CURVE_RECORD, LINE, MOVE, POINT_RECORD};
+use pen::{BARE_RECORD, CURVE_RECORD, POINT_RECORD, Record};
 
 // The words that a record of a kind takes.
+#[tactic(auto, unfolding(crate::specs::Count::size_of))]
 fn size(kind: i32) -> usize
     ensures { (result ≡ size_of kind) × (result ≤ 7) }
 {
-    if kind == MOVE {
+    if kind == Record::Move as i32 || kind == Record::Line as i32 {
         return POINT_RECORD;
     }
-    if kind == LINE {
-        return POINT_RECORD;
-    }
-    if kind == CURVE {
+    if kind == Record::Curve as i32 {
         return CURVE_RECORD;
     }
     BARE_RECORD
@@ -28,9 +26,10 @@ pub(crate) fn count_records(out: &[i32], words: usize) -> usize
     let end = least(words, out.len());
     let mut count = 0;
     let mut at = 0;
+    // The step is the size of the record that is read.
     while at < end {
-        at = at + size(out[at]);
-        count = count + 1;
+        at += size(out[at]);
+        count += 1;
     }
     count
 }

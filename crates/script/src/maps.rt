@@ -1,6 +1,5 @@
 // The map that a script has come to.
-ghost use Rattle.std.specs.Prelude.{◌≡◌};
-ghost use Rattle.words.specs.declared.answer.Answer.TheVariants.{Ok};
+ghost use Rattle.std.specs.Prelude.{◌≡◌, Ok};
 ghost use Rattle.words.specs.Answers.{first_of};
 ghost use Rattle.script.specs.Script.{check_rows, map_at};
 
@@ -12,7 +11,7 @@ use words::{layout, natural};
 // The current map of a script that passes all tests after its first so many commands, or after all
 // of them if there are fewer.
 pub fn map_after(script: &[u8], commands: usize) -> HintMap
-    requires { first_of (check_rows script.now) ≡ Ok }
+    requires { first_of (check_rows script.now) ≡ Ok tt }
     ensures { result ≡ map_at script.now commands }
 {
     let first = natural(script, layout::COMMANDS_START);

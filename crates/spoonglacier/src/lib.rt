@@ -19,8 +19,8 @@ pub fn spoonglacier_run(script: &[u8], out: &mut [i32], place: &mut usize) -> u3
     ensures { Returned (script_of script.now out.old) result out.new place.new }
 {
     let answer = script::run_script(script, out);
-    *place = answer.place();
-    answer.code()
+    *place = words::place(answer);
+    words::code(answer)
 }
 
 // Writes a script into a lent buffer; answers the writer's number, and leaves the bytes that were
@@ -40,9 +40,9 @@ pub fn spoonglacier_write(
 {
     let scale = Fixed { bits: scale };
     let wrote = writer::write_script(scale, writer::params_from(params), commands, masks, script);
-    *written = wrote.written();
-    *place = wrote.place();
-    wrote.code()
+    *written = writer::written(wrote);
+    *place = writer::place(wrote);
+    writer::code(wrote)
 }
 
 // Lists the edges of the map that a script has after its first so many commands, six words a
@@ -62,13 +62,13 @@ pub fn spoonglacier_edges(
         result list.new edges.new pairs.new ghosts.new locked.new place.new }
 {
     let seen = overlay::see_edges(script, commands, list);
-    let summary = seen.summary();
+    let summary = overlay::summary(seen);
     *edges = summary.edges;
     *pairs = summary.pairs;
     *ghosts = summary.ghosts;
     *locked = summary.locked;
-    *place = seen.place();
-    seen.code()
+    *place = overlay::place(seen);
+    overlay::code(seen)
 }
 
 // Hints the glyphs of a label into one result; answers the label run's number, and leaves the words
@@ -97,8 +97,8 @@ pub fn spoonglacier_labels(
         lengths,
         out,
     );
-    *written = labelled.written();
-    *glyph = labelled.glyph();
-    *place = labelled.place();
-    labelled.code()
+    *written = labels::written(labelled);
+    *glyph = labels::glyph(labelled);
+    *place = labels::place(labelled);
+    labels::code(labelled)
 }

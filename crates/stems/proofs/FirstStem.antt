@@ -1,7 +1,7 @@
 -- The first active stem of a mask: what is known of it, and how a search goes through the mask's bytes.
 -- Assumes nothing.
-use mathlib.Core.Path.{◌≡◌, refl, sym, ◌∙◌}
-use mathlib.Core.Bool.{Bool, true, false, cond, true≢false}
+use mathlib.Core.Path.{◌≡◌, refl, sym, ap, ◌∙◌}
+use mathlib.Core.Bool.{Bool, true, false, cond, not, true≢false}
 use mathlib.Core.List.{[], ◌∷◌}
 use mathlib.Core.Logic.{⊎_elim}
 use Prim.Native.Nat.{ℕ, zero, suc, ◌+◌, ◌-◌, ◌*◌, ◌/◌, ◌%◌, ◌^◌, ◌<◌, ◌≤◌}
@@ -9,9 +9,14 @@ use native.Mathlib.Nat.{eq-or-lt_of_le, eq-zero-or-pos, div-eq_of_lt, div-eq_of_
 use native.Mathlib.Omega.{arith}
 use lib.Count.{count_leading_zeros, leading_of_zero, leading_top}
 use lib.Dec.{eqb, ltb}
-use lib.ListN.{get_or}
+use lib.ListN.{length, get_or}
 use lib.Pow.{pow_mono, pow_pos}
 use borrow.Author.Tests.{ltb-true, ltb-false}
+use Rattle.std.proofs.Common.{None, Some}
+use Rattle.std.proofs.lemmas.Grind.{common_steps}
+use Rattle.std.proofs.lemmas.List.Quantifiers.{position-Some}
+use Rattle.std.proofs.lemmas.List.Sums.{fails_before_first}
+use Rattle.std.specs.List.{position, position_or_len}
 use Rattle.stems.specs.declared.mask.HintMask.{HintMask}
 use Rattle.stems.specs.Mask.{of_bytes, is_active, first_from, first_active, cleared, without_first, TookFirst}
 use Rattle.stems.proofs.Masks.{clear-off, clear-keeps}
@@ -203,3 +208,49 @@ module _ (x : ℕ) (fits : x < 256) where
 
   pub first-leading : count_leading_zeros 8 x ≡ first_from alone 0 8
   first-leading = ⊎_elim none-leading some-leading (eq-zero-or-pos x)
+
+-- ---- the first byte of a mask that has an active stem
+abbrev pub is_some : ℕ → Bool
+is_some x = not (eqb x 0)
+
+-- byte k of the mask is the first that has one, as its bit r
+pub record InByte (m : HintMask) (k r : ℕ) : Type 0 where
+  pub inside : k < 12
+  pub under : r < 8
+  pub on : is_active m (8 * k + r) ≡ true
+  pub first : first_active m ≡ 8 * k + r
+
+module _ (m : HintMask) (fits : (i : ℕ) → get_or m.bytes i 0 < 256) (twelve : length m.bytes ≡ 12) where
+  -- a search passes over bytes of 0
+  over : (k : ℕ) → k ≤ 12 → ((j : ℕ) → j < k → is_some (get_or m.bytes j 0) ≡ false) →
+      first_active m ≡ first_from m (8 * k) (96 - 8 * k)
+  over zero l f = refl
+  over (suc k) l f =
+      let x = get_or m.bytes k 0 in
+      let zeros : x ≡ 0 = grind (arith, common_steps, f k) in
+      let lead : 8 ≡ count_leading_zeros 8 x = sym (leading_of_zero 8) ∙ ap (count_leading_zeros 8) (sym zeros) in
+      let none : 8 ≡ bit m k = lead ∙ first-leading x (fits k) in
+      let n : suc k ≡ k + 1 = omega arith in
+      rw n (over k (omega arith) (λ j h. f j (omega arith)) ∙ search-on m k none (omega arith) (omega arith))
+
+  -- where there is none, no stem is active
+  pub no_byte : position is_some m.bytes ≡ None → first_active m ≡ 96
+  unfolding first_from
+  no_byte e =
+      let far : 12 ≤ position_or_len is_some m.bytes = grind (arith, common_steps) in
+      over 12 (omega arith) (λ j h. fails_before_first is_some m.bytes j 0 (omega arith))
+
+  -- and else its first stem is the mask's
+  pub in_byte : (k r : ℕ) → position is_some m.bytes ≡ Some k → r ≡ bit m k → InByte m k r
+  in_byte k r e b =
+      let at = position-Some is_some m.bytes k 0 e in
+      let x = get_or m.bytes k 0 in
+      let l : k < 12 = omega (arith, at.0) in
+      let some : 0 < x = grind (arith, common_steps, at.1) in
+      let u : r < 8 = omega (arith, b, first-leading x (fits k), (leading_top 8 x some (fits k)).1) in
+      record {
+        inside = l;
+        under = u;
+        on = found-on m k b u;
+        first = over k (omega arith) at.2 ∙ search-ends m k b l u;
+      }

@@ -10,6 +10,11 @@ use lib.IntN.{ℤ, pos}
 use lib.ListN.{length, get_or, set, length-set}
 use lib.Seq.{get_or-set_same, get_or-set_other, ext_get_or, set-get_or}
 use borrow.Author.Tests.{eqb-true, eqb-false, ltb-true, ltb-false}
+use denote.Param.Members.{Mut}
+use mathlib.Core.Logic.{⊎_elim}
+use native.Mathlib.Nat.{eq-or-lt_of_le}
+use Rattle.std.specs.Fn.{Called}
+use Rattle.std.specs.Array.{IsFromFnResultFrom}
 use Rattle.fixed.specs.declared.Fixed.{Fixed}
 use Rattle.fixed.specs.Fixed.{from_bits, ZERO, less_f}
 use Rattle.stems.specs.declared.edge.Hint.{Hint}
@@ -17,7 +22,7 @@ use Rattle.stems.specs.declared.edge.StemHint.{StemHint}
 use Rattle.stems.specs.declared.edge.Kind.{Kind}
 use Rattle.stems.specs.declared.edge.Kind.TheVariants.{Absent, GhostBottom, GhostTop, PairBottom, PairTop}
 use Rattle.stems.specs.Edge.{no_hint}
-use Rattle.stems.specs.Lists.{tabulate, kind_at, kind_in, kind_number, mark, tag_of, height_in, device_in, scale_in}
+use Rattle.stems.specs.Lists.{tabulate, kind_in, kind_number, mark, tag_of, height_in, device_in, scale_in}
 use Rattle.stems.specs.Lists.{decoded, hint_in, edges_in, Whole, set_line, set_lines, set_tags, Put, Copied}
 use Rattle.stems.specs.Lists.{stem_in, stems_in, stem_by, mark_if, set_stem}
 
@@ -75,15 +80,20 @@ module _ {A : Type 0} where
       (λ j m. let q : j < n = omega (arith, l) in
       get_d_tabulate g n j d q ∙ changed-at f g n i x d (eqb j i) j refl p q h o)
 
--- ---- tags
--- a number of 4 or more names a pair's top
-pub kind-top : (k : ℕ) → 4 ≤ k → kind_at k ≡ PairTop
-kind-top zero h = absurd (omega arith)
-kind-top (suc zero) h = absurd (omega arith)
-kind-top (suc (suc zero)) h = absurd (omega arith)
-kind-top (suc (suc (suc zero))) h = absurd (omega arith)
-kind-top (suc (suc (suc (suc n)))) h = refl
+-- a list that calls made, each of its own place, which leave the function as it was
+pub made : {F A : Type 0} {g : Mut F (ℕ × Unit {0}) A} (f : F) (h : ℕ → A) (ys : List A) →
+    ((i : ℕ) (y : A) (q : F) → Called g f (i, tt) y q → (q ≡ f) × (y ≡ h i)) → (n i : ℕ) →
+    IsFromFnResultFrom g f ys i n → (j : ℕ) (d : A) → i ≤ j → j < i + n → get_or ys j d ≡ h j
+made f h ys s zero i r j d l m = absurd (omega arith)
+made {g} f h ys s (suc n) i r j d l m =
+    let one = s i r.1 r.0 r.3 in
+    ⊎_elim
+    (λ e. subst (λ k. get_or ys k d ≡ h k) e (r.2.1 d ∙ one.1))
+    (λ p. let rest = subst (λ q. IsFromFnResultFrom g q ys (i + 1) n) one.0 r.4 in
+    made f h ys s n (i + 1) rest j d (omega arith) (omega arith))
+    (eq-or-lt_of_le l)
 
+-- ---- tags
 -- a tag says what was put into it
 told : (k : Kind) (l y : Bool) (i : ℕ) (h d s : Fixed) →
     decoded (kind_number k + mark l 8 + mark y 16) i h d s ≡

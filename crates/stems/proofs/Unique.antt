@@ -53,6 +53,10 @@ use Rattle.stems.proofs.lists.scale_at.Reads as scale-at-reads
 use Rattle.stems.specs.contracts.lists.edge_at as edge_at
 use Rattle.stems.proofs.lists.edge_at.Kinds as edge-at-kinds
 use Rattle.stems.proofs.lists.edge_at.Reads as edge-at-reads
+use Rattle.stems.proofs.lists.number_at.Reads as number-at-reads
+use mir.Syntax.{w64}
+use mir.Val.{Fits}
+use Rattle.stems.proofs.lists.put_number.Reads as put-number-reads
 use Rattle.stems.specs.contracts.lists.put_line as put-line
 use Rattle.stems.proofs.lists.put_line.Kinds as put-line-kinds
 use Rattle.stems.proofs.lists.put_line.Reads as put-line-reads
@@ -147,6 +151,10 @@ module _ (κs : Lfts 1) (a : ArgsD new.signature κs) (r r' : ResD new.signature
   new-unique p q = p ∙ sym q
 
 -- ---- what lists hold
+pub number-at-unique : (n : ℕ) (f : Fits w64 n) (κs : Lfts 2) (a : _) (r r' : _) (x x' : _) →
+    number-at-reads.Post n f κs a r x → number-at-reads.Post n f κs a r' x' → r ≡ r'
+number-at-unique n f κs a r r' x x' p q = p ∙ sym q
+
 module _ (κs : Lfts 1) (a : ArgsD height-at.signature κs) (r r' : ResD height-at.signature κs)
     (x x' : AtExit (ended_of 1 height-at-kinds.ps height-at-kinds.r) κs) where
   pub height-at-unique : height-at-reads.Post κs a r x → height-at-reads.Post κs a r' x' →
@@ -190,6 +198,10 @@ module _ (κs : Lfts 1) (a : ArgsD is-active.signature κs) (r r' : ResD is-acti
   is-active-unique p q = p ∙ sym q
 
 -- ---- what lists are left as
+pub put-number-unique : (n : ℕ) (f : Fits w64 n) (κs : Lfts 2) (a : _) (r r' : _) (x x' : _) →
+    put-number-reads.Post n f κs a r x → put-number-reads.Post n f κs a r' x' → x.0.now ≡ x'.0.now
+put-number-unique n f κs a r r' x x' p q = p ∙ sym q
+
 module _ (κs : Lfts 1) (a : ArgsD put-line.signature κs) (r r' : ResD put-line.signature κs)
     (x x' : AtExit (ended_of 1 put-line-kinds.ps put-line-kinds.r) κs) where
   pub put-line-unique : put-line-reads.Post κs a r x → put-line-reads.Post κs a r' x' →

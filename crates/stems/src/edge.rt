@@ -12,7 +12,7 @@ pub const MAX_HINTS: usize = 96;
 // pair.
 pub const LAST_HINT: usize = 95;
 
-#[derive(Clone, Copy)]
+#[derive(Clone, Copy, Debug, PartialEq, Eq)]
 pub struct StemHint {
     pub is_used: bool,
     pub min: Fixed,
@@ -22,14 +22,14 @@ pub struct StemHint {
 }
 
 // The stems that are declared.
-#[derive(Clone, Copy)]
+#[derive(Clone, Copy, Debug, PartialEq, Eq)]
 pub struct Stems {
     pub list: [StemHint; MAX_HINTS],
     pub count: usize,
 }
 
 // What an edge is: no edge, the one edge of a ghost, or one of the two of a pair.
-#[derive(Clone, Copy)]
+#[derive(Clone, Copy, Debug, PartialEq, Eq)]
 pub enum Kind {
     Absent,
     GhostBottom,
@@ -39,13 +39,13 @@ pub enum Kind {
 }
 
 // Bottom or top: of a stem's two edges, and of zones.
-#[derive(Clone, Copy)]
+#[derive(Clone, Copy, Debug, PartialEq, Eq)]
 pub enum Side {
     Bottom,
     Top,
 }
 
-#[derive(Clone, Copy)]
+#[derive(Clone, Copy, Debug, PartialEq, Eq)]
 pub struct Hint {
     pub kind: Kind,
     pub locked: bool,
@@ -57,7 +57,7 @@ pub struct Hint {
 }
 
 // What a stem's width makes of it: a ghost at a height, or a pair of two.
-#[derive(Clone, Copy)]
+#[derive(Clone, Copy, Debug, PartialEq, Eq)]
 pub enum Shape {
     BottomGhost(Fixed),
     TopGhost(Fixed),
@@ -72,45 +72,40 @@ const GHOST_TOP_WIDTH: Fixed = Fixed { bits: -0x14_0000 };
 
 impl StemHint {
     // From `Hint::setup`: the stem's shape, by its width.
+    #[tactic(auto, unfolding(crate::specs::Edge::shape_of))]
     pub fn shape(self) -> Shape
         ensures { result ≡ shape_of self }
     {
         let min = self.min;
         let max = self.max;
         let width = max.sub(min);
-        if width.same(GHOST_BOTTOM_WIDTH) {
-            return Shape::BottomGhost(max);
+        if width == GHOST_BOTTOM_WIDTH {
+            Shape::BottomGhost(max)
+        } else if width == GHOST_TOP_WIDTH {
+            Shape::TopGhost(min)
+        } else if width < Fixed::ZERO {
+            Shape::Pair(max, min)
+        } else {
+            Shape::Pair(min, max)
         }
-        if width.same(GHOST_TOP_WIDTH) {
-            return Shape::TopGhost(min);
-        }
-        if width.less(Fixed::ZERO) {
-            return Shape::Pair(max, min);
-        }
-        Shape::Pair(min, max)
     }
 }
 
 impl Shape {
     // From `Hint::setup`: the bottom edge or the top edge, whether or not the stem is used. A ghost
     // has only its own.
+    #[tactic(auto, unfolding(crate::specs::Edge::edge_of))]
     fn edge(self, side: Side, index: u8, scale: Fixed) -> Hint
         ensures { result ≡ edge_of self side index scale }
     {
-        match self {
-            Shape::BottomGhost(height) => match side {
-                Side::Bottom => Hint::at(Kind::GhostBottom, height, index, scale),
-                Side::Top => Hint::at(Kind::Absent, Fixed::ZERO, index, scale),
-            },
-            Shape::TopGhost(height) => match side {
-                Side::Bottom => Hint::at(Kind::Absent, Fixed::ZERO, index, scale),
-                Side::Top => Hint::at(Kind::GhostTop, height, index, scale),
-            },
-            Shape::Pair(low, high) => match side {
-                Side::Bottom => Hint::at(Kind::PairBottom, low, index, scale),
-                Side::Top => Hint::at(Kind::PairTop, high, index, scale),
-            },
-        }
+        let (kind, height) = match (self, side) {
+            (Shape::BottomGhost(height), Side::Bottom) => (Kind::GhostBottom, height),
+            (Shape::TopGhost(height), Side::Top) => (Kind::GhostTop, height),
+            (Shape::Pair(low, _), Side::Bottom) => (Kind::PairBottom, low),
+            (Shape::Pair(_, high), Side::Top) => (Kind::PairTop, high),
+            _ => (Kind::Absent, Fixed::ZERO),
+        };
+        Hint::at(kind, height, index, scale)
     }
 }
 
@@ -147,85 +142,48 @@ impl Hint {
 
     // Ports `Hint::setup`: a stem's bottom or top edge, locked at its saved height once the stem is
     // used.
+    #[tactic(auto, unfolding(crate::specs::Edge::setup_of))]
     pub fn setup(stem: StemHint, index: u8, scale: Fixed, side: Side) -> Hint
         ensures { result ≡ setup_of stem index scale side }
     {
         let edge = stem.shape().edge(side, index, scale);
-        if !stem.is_used {
-            return edge;
+        if !stem.is_used || !edge.is_valid() {
+            edge
+        } else if edge.is_top() {
+            edge.locked_at(stem.ds_max)
+        } else {
+            edge.locked_at(stem.ds_min)
         }
-        if !edge.is_valid() {
-            return edge;
-        }
-        if edge.is_top() {
-            return edge.locked_at(stem.ds_max);
-        }
-        edge.locked_at(stem.ds_min)
     }
 
     pub fn is_valid(self) -> bool
         ensures { result ≡ is_valid self }
     {
-        let kind = self.kind;
-        match kind {
-            Kind::Absent => false,
-            Kind::GhostBottom => true,
-            Kind::GhostTop => true,
-            Kind::PairBottom => true,
-            Kind::PairTop => true,
-        }
+        self.kind != Kind::Absent
     }
 
     pub fn is_bottom(self) -> bool
         ensures { result ≡ is_bottom self }
     {
-        let kind = self.kind;
-        match kind {
-            Kind::Absent => false,
-            Kind::GhostBottom => true,
-            Kind::GhostTop => false,
-            Kind::PairBottom => true,
-            Kind::PairTop => false,
-        }
+        matches!(self.kind, Kind::GhostBottom | Kind::PairBottom)
     }
 
     pub fn is_top(self) -> bool
         ensures { result ≡ is_top self }
     {
-        let kind = self.kind;
-        match kind {
-            Kind::Absent => false,
-            Kind::GhostBottom => false,
-            Kind::GhostTop => true,
-            Kind::PairBottom => false,
-            Kind::PairTop => true,
-        }
+        matches!(self.kind, Kind::GhostTop | Kind::PairTop)
     }
 
     pub fn is_pair(self) -> bool
         ensures { result ≡ is_pair self }
     {
-        let kind = self.kind;
-        match kind {
-            Kind::Absent => false,
-            Kind::GhostBottom => false,
-            Kind::GhostTop => false,
-            Kind::PairBottom => true,
-            Kind::PairTop => true,
-        }
+        matches!(self.kind, Kind::PairBottom | Kind::PairTop)
     }
 
     pub fn is_pair_top(self) -> bool
         ensures { result ≡ is_pair_top self }
     {
-        let kind = self.kind;
-        match kind {
-            Kind::Absent => false,
-            Kind::GhostBottom => false,
-            Kind::GhostTop => false,
-            Kind::PairBottom => false,
-            Kind::PairTop => true,
-        }
+        self.kind == Kind::PairTop
     }
 
     pub fn is_locked(self) -> bool
@@ -244,17 +202,19 @@ impl Hint {
     pub fn at_device(self, height: Fixed) -> Hint
         ensures { result ≡ at_device self height }
     {
-        let mut edge = self;
-        edge.ds_coord = height;
-        edge
+        Hint {
+            ds_coord: height,
+            ..self
+        }
     }
 
     // The edge at another device height and locked there; ports `Hint::lock`.
     pub fn locked_at(self, height: Fixed) -> Hint
         ensures { result ≡ locked_at self height }
     {
-        let mut edge = self.at_device(height);
-        edge.locked = true;
-        edge
+        Hint {
+            locked: true,
+            ..self.at_device(height)
+        }
     }
 }

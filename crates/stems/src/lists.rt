@@ -5,7 +5,8 @@
 // The lines of a map are 288 numbers, 96 each of character heights, device heights and scales. Its
 // tags are 192 bytes: 96 of kinds with their marks, and 96 of stem numbers. Stems are 480 numbers,
 // 96 each of: 1.0 if the stem is used, and its four heights.
-ghost use Rattle.std.specs.Prelude.{◌≡◌, ◌+◌, ◌<◌, ◌≤◌, length, set};
+ghost use Rattle.std.specs.Prelude.{◌≡◌, ◌+◌, ◌<◌, ◌≤◌, pos, length, get_or, set};
+ghost use Rattle.fixed.specs.Fixed.{from_bits};
 ghost use Rattle.stems.specs.Edge.{max_hints};
 ghost use Rattle.stems.specs.Lists.{kind_in, kind_number, mark, tag_of, height_in, device_in, scale_in, hint_in};
 ghost use Rattle.stems.specs.Lists.{set_line, Put, Copied, stem_in, stems_in, mark_if, set_stem, ListedStems};
@@ -43,34 +44,33 @@ const LOCKED: u8 = 8;
 const SYNTHETIC: u8 = 16;
 
 // The kind that a tag names.
-fn kind_of(tag: u8) -> Kind
-    ensures { result ≡ kind_in tag }
-{
-    let kind = tag % KINDS;
-    if kind == 0 {
-        return Kind::Absent;
+impl From<u8> for Kind {
+    ghost from_gives = { λ tag kind. kind ≡ kind_in tag };
+
+    #[tactic(auto, unfolding(crate::specs::Lists::kind_in))]
+    fn from(tag: u8) -> Kind {
+        match tag % KINDS {
+            0 => Kind::Absent,
+            1 => Kind::GhostBottom,
+            2 => Kind::GhostTop,
+            3 => Kind::PairBottom,
+            _ => Kind::PairTop,
+        }
     }
-    if kind == 1 {
-        return Kind::GhostBottom;
-    }
-    if kind == 2 {
-        return Kind::GhostTop;
-    }
-    if kind == 3 {
-        return Kind::PairBottom;
-    }
-    Kind::PairTop
 }
 
-fn kind_number(kind: Kind) -> u8
-    ensures { (result ≡ kind_number kind) × (result ≤ 4) }
-{
-    match kind {
-        Kind::Absent => 0,
-        Kind::GhostBottom => 1,
-        Kind::GhostTop => 2,
-        Kind::PairBottom => 3,
-        Kind::PairTop => 4,
+// What a kind counts in a tag.
+impl From<Kind> for u8 {
+    ghost from_gives = { λ kind number. (number ≡ kind_number kind) × (number ≤ 4) };
+
+    fn from(kind: Kind) -> u8 {
+        match kind {
+            Kind::Absent => 0,
+            Kind::GhostBottom => 1,
+            Kind::GhostTop => 2,
+            Kind::PairBottom => 3,
+            Kind::PairTop => 4,
+        }
     }
 }
 
@@ -78,17 +78,29 @@ fn kind_number(kind: Kind) -> u8
 fn marked(is: bool, weight: u8) -> u8
     ensures { (result ≡ mark is weight) × (result ≤ weight) }
 {
-    if is {
-        return weight;
-    }
-    0
+    if is { weight } else { 0 }
 }
 
 fn tag_of(edge: Hint) -> u8
     ensures { result ≡ tag_of edge }
 {
-    let kind = edge.kind;
-    kind_number(kind) + marked(edge.locked, LOCKED) + marked(edge.synthetic, SYNTHETIC)
+    u8::from(edge.kind) + marked(edge.locked, LOCKED) + marked(edge.synthetic, SYNTHETIC)
+}
+
+// The number at a place of a list.
+pub fn number_at<const N: usize>(numbers: &[i32; N], at: usize) -> Fixed
+    requires { at < N }
+    ensures { result ≡ from_bits (get_or numbers.now at (pos 0)) }
+{
+    Fixed { bits: numbers[at] }
+}
+
+// A number, at a place of a list.
+pub fn put_number<const N: usize>(numbers: &mut [i32; N], at: usize, value: Fixed)
+    requires { at < N }
+    ensures { numbers.new ≡ set numbers.old at value.bits }
+{
+    numbers[at] = value.bits;
 }
 
 // The character height of the edge at a place.
@@ -96,8 +108,7 @@ pub fn height_at(lines: &[i32; LINES], i: usize) -> Fixed
     requires { i < max_hints }
     ensures { result ≡ height_in lines.now i }
 {
-    let bits = lines[i];
-    Fixed { bits }
+    number_at(lines, i)
 }
 
 // Its device height.
@@ -105,8 +116,7 @@ pub fn device_at(lines: &[i32; LINES], i: usize) -> Fixed
     requires { i < max_hints }
     ensures { result ≡ device_in lines.now i }
 {
-    let bits = lines[DEVICES + i];
-    Fixed { bits }
+    number_at(lines, DEVICES + i)
 }
 
 // Its scale.
@@ -114,22 +124,21 @@ pub fn scale_at(lines: &[i32; LINES], i: usize) -> Fixed
     requires { i < max_hints }
     ensures { result ≡ scale_in lines.now i }
 {
-    let bits = lines[SCALES + i];
-    Fixed { bits }
+    number_at(lines, SCALES + i)
 }
 
 // The whole edge.
+#[tactic(auto, unfolding(crate::specs::Lists::hint_in))]
 pub fn edge_at(lines: &[i32; LINES], tags: &[u8; TAGS], i: usize) -> Hint
     requires { i < max_hints }
     ensures { result ≡ hint_in lines.now tags.now i }
 {
     let tag = tags[i];
-    let index = tags[NUMBERS + i];
     Hint {
-        kind: kind_of(tag),
+        kind: Kind::from(tag),
         locked: tag / LOCKED % 2 == 1,
         synthetic: tag / SYNTHETIC % 2 == 1,
-        index,
+        index: tags[NUMBERS + i],
         cs_coord: height_at(lines, i),
         ds_coord: device_at(lines, i),
         scale: scale_at(lines, i),
@@ -141,10 +150,8 @@ pub fn put_line(lines: &mut [i32; LINES], i: usize, edge: Hint)
     requires { i < max_hints }
     ensures { lines.new ≡ set_line lines.old i edge }
 {
-    let device = edge.ds_coord.bits;
-    let scale = edge.scale.bits;
-    lines[DEVICES + i] = device;
-    lines[SCALES + i] = scale;
+    put_number(lines, DEVICES + i, edge.ds_coord);
+    put_number(lines, SCALES + i, edge.scale);
 }
 
 // An edge, at a place.
@@ -152,12 +159,8 @@ pub fn put_edge(lines: &mut [i32; LINES], tags: &mut [u8; TAGS], i: usize, edge:
     requires { i < max_hints }
     ensures { Put lines.old tags.old i edge lines.new tags.new }
 {
-    let height = edge.cs_coord.bits;
-    let device = edge.ds_coord.bits;
-    let scale = edge.scale.bits;
-    lines[i] = height;
-    lines[DEVICES + i] = device;
-    lines[SCALES + i] = scale;
+    put_number(lines, i, edge.cs_coord);
+    put_line(lines, i, edge);
     tags[i] = tag_of(edge);
     tags[NUMBERS + i] = edge.index;
 }
@@ -180,21 +183,17 @@ pub fn copy_edge(lines: &mut [i32; LINES], tags: &mut [u8; TAGS], from: usize, t
 }
 
 // The stem at a place.
+#[tactic(auto, unfolding(crate::specs::Lists::stem_in))]
 pub fn stem_at(stems: &[i32; STEM_NUMBERS], i: usize) -> StemHint
     requires { i < max_hints }
     ensures { result ≡ stem_in stems.now i }
 {
-    let used = stems[i];
-    let min = stems[MINIMA + i];
-    let max = stems[MAXIMA + i];
-    let ds_min = stems[DEVICE_MINIMA + i];
-    let ds_max = stems[DEVICE_MAXIMA + i];
     StemHint {
-        is_used: Fixed::ZERO.less(Fixed { bits: used }),
-        min: Fixed { bits: min },
-        max: Fixed { bits: max },
-        ds_min: Fixed { bits: ds_min },
-        ds_max: Fixed { bits: ds_max },
+        is_used: Fixed::ZERO < number_at(stems, i),
+        min: number_at(stems, MINIMA + i),
+        max: number_at(stems, MAXIMA + i),
+        ds_min: number_at(stems, DEVICE_MINIMA + i),
+        ds_max: number_at(stems, DEVICE_MAXIMA + i),
     }
 }
 
@@ -202,22 +201,11 @@ pub fn stem_at(stems: &[i32; STEM_NUMBERS], i: usize) -> StemHint
 pub fn mark_if(is: bool) -> Fixed
     ensures { result ≡ mark_if is }
 {
-    if is {
-        return Fixed::ONE;
-    }
-    Fixed::ZERO
-}
-
-// A number of a stem, where it lies.
-fn put_number(stems: &mut [i32; STEM_NUMBERS], at: usize, value: Fixed)
-    requires { at < 480 }
-    ensures { stems.new ≡ set stems.old at value.bits }
-{
-    let bits = value.bits;
-    stems[at] = bits;
+    if is { Fixed::ONE } else { Fixed::ZERO }
 }
 
 // A stem, at a place.
+#[tactic(auto, unfolding(crate::specs::Lists::set_stem))]
 pub fn put_stem(stems: &mut [i32; STEM_NUMBERS], i: usize, stem: StemHint)
     requires { i < max_hints }
     ensures { stems.new ≡ set_stem stems.old i stem }
@@ -235,9 +223,8 @@ impl Stems {
         requires { length stems.old ≡ 480 }
         ensures { ListedStems self stems.new }
     {
-        for i in 0..MAX_HINTS {
-            let stem = self.list[i];
-            put_stem(stems, i, stem);
+        for (i, stem) in self.list.iter().enumerate() {
+            put_stem(stems, i, *stem);
         }
     }
 
@@ -245,11 +232,7 @@ impl Stems {
     pub fn from_list(stems: &[i32; STEM_NUMBERS], count: usize) -> Stems
         ensures { result ≡ stems_in stems.now count }
     {
-        let none = stem_at(stems, 0);
-        let mut list = [none; MAX_HINTS];
-        for i in 1..MAX_HINTS {
-            list[i] = stem_at(stems, i);
-        }
+        let list = std::array::from_fn(|i| stem_at(stems, i));
         Stems { list, count }
     }
 }

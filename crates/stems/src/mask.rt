@@ -1,14 +1,14 @@
 // Which stems are active: a bit for each, the most significant bit of the first byte for stem 0.
-ghost use Rattle.std.specs.Prelude.{◌≡◌, true, [], ◌∷◌, ◌-◌, ◌<◌, ◌%◌, ◌^◌};
+ghost use Rattle.std.specs.Prelude.{◌≡◌, true, not, ◌==◌, [], ◌∷◌, ◌-◌, ◌<◌, ◌%◌, ◌^◌, position};
 ghost use Rattle.stems.specs.Edge.{max_hints};
 ghost use Rattle.stems.specs.Mask.{of_bytes, all_active, mask_of, is_active, first_from, cleared, TookFirst, same_mask};
 
-use crate::edge::{LAST_HINT, MAX_HINTS};
+use crate::edge::MAX_HINTS;
 
 // A bit for each of `MAX_HINTS` stems.
 pub const HINT_MASK_SIZE: usize = 12;
 
-#[derive(Clone, Copy)]
+#[derive(Clone, Copy, Debug, PartialEq, Eq)]
 pub struct HintMask {
     pub bytes: [u8; HINT_MASK_SIZE],
 }
@@ -21,6 +21,7 @@ fn msb_mask(bit: usize) -> u8
 }
 
 // Whether a stem is active in a mask's bytes.
+#[tactic(auto, unfolding(crate::specs::Mask::is_active))]
 pub fn is_active(bytes: &[u8; HINT_MASK_SIZE], bit: usize) -> bool
     requires { bit < max_hints }
     ensures { result ≡ is_active (of_bytes bytes.now) bit }
@@ -45,20 +46,26 @@ fn first_set(byte: u8) -> usize
     u8::leading_zeros(byte) as usize
 }
 
+// The first byte of a mask that has an active stem.
+fn first_byte(bytes: &[u8; HINT_MASK_SIZE]) -> Option<usize>
+    ensures { result ≡ position (λ byte. not (byte == 0)) bytes.now }
+{
+    bytes.iter().position(|byte| *byte != 0)
+}
+
 // Takes the first active stem out of a mask's bytes: gives its number and clears its bit. Gives 96
 // where no stem is active.
 pub fn take_first(bytes: &mut [u8; HINT_MASK_SIZE]) -> usize
     ensures { TookFirst (of_bytes bytes.old) result (of_bytes bytes.new) }
 {
-    for k in 0..HINT_MASK_SIZE {
-        let bit = first_set(bytes[k]);
-        if bit < 8 {
-            let stem = 8 * k + bit;
+    match first_byte(bytes) {
+        Some(k) => {
+            let stem = 8 * k + first_set(bytes[k]);
             clear_active(bytes, stem);
-            return stem;
+            stem
         }
+        None => MAX_HINTS,
     }
-    MAX_HINTS
 }
 
 impl HintMask {
@@ -72,6 +79,7 @@ impl HintMask {
     }
 
     // Ports `HintMask::new`; over twelve bytes, where that returns `None`, all stems are active.
+    #[tactic(auto, unfolding(crate::specs::Mask::mask_of))]
     pub fn new(bytes: &[u8]) -> HintMask
         ensures { result ≡ mask_of bytes.now }
     {
@@ -80,9 +88,7 @@ impl HintMask {
             return HintMask::all();
         }
         let mut copy = [0u8; HINT_MASK_SIZE];
-        for i in 0..n {
-            copy[i] = bytes[i];
-        }
+        copy[..n].copy_from_slice(bytes);
         HintMask { bytes: copy }
     }
 
@@ -90,14 +96,11 @@ impl HintMask {
     pub fn get(self, bit: usize) -> bool
         ensures { result ≡ is_active self bit }
     {
-        if LAST_HINT < bit {
-            return false;
-        }
-        let bytes = self.bytes;
-        is_active(&bytes, bit)
+        bit < MAX_HINTS && is_active(&self.bytes, bit)
     }
 
     // Ports `HintMask::clear`.
+    #[tactic(auto, unfolding(crate::specs::Mask::cleared))]
     pub fn clear(self, bit: usize) -> HintMask
         ensures { result ≡ cleared self bit }
     {
@@ -110,14 +113,10 @@ impl HintMask {
     }
 
     // All 96 bits are the same.
+    #[tactic(auto, unfolding(crate::specs::Mask::same_bytes))]
     pub fn same(self, other: HintMask) -> bool
         ensures { result ≡ same_mask self other }
     {
-        for i in 0..HINT_MASK_SIZE {
-            if self.bytes[i] != other.bytes[i] {
-                return false;
-            }
-        }
-        true
+        self == other
     }
 }

@@ -1,74 +1,91 @@
-// One call of a row. Its kind is that of a command of 01's scripts.
+// One call of a row.
 ghost use Rattle.std.specs.Prelude.{◌≤◌};
 
 use drawing::{
     After, clear_hints, close, counter_mask, curve_to, finish, hint_mask, hstem, line_to, move_to,
 };
+use fixed::Fixed;
 use hints::Drawing;
-use pen::Point;
+use pen::{Path, Point};
+use stems::HintMask;
 use zones::HintState;
 
-// A call that writes records: 5 move, 6 line, 7 curve, 9 finish. Operands start at `at`.
-pub(crate) fn drawn(
-    state: HintState,
-    drawing: Drawing,
-    kind: i32,
-    row: &[i32],
-    at: usize,
-    out: &mut [i32],
-) -> After
-    requires { at ≤ 1000 }
-{
-    if kind == 5 {
-        return move_to(state, drawing, point(row, at), out);
-    }
-    if kind == 6 {
-        return line_to(state, drawing, point(row, at), out);
-    }
-    if kind == 7 {
-        return curved(state, drawing, row, at, out);
-    }
-    finish(state, drawing, out)
+// A call with its operands: one that writes records, or one that writes none.
+#[derive(Clone, Copy)]
+pub(crate) enum Call {
+    Draw(Path),
+    Hint(Hinting),
 }
 
-// A curve's three points stand one behind the other.
-fn curved(state: HintState, drawing: Drawing, row: &[i32], at: usize, out: &mut [i32]) -> After
-    requires { at ≤ 1000 }
-{
-    let first = point(row, at);
-    let second = point(row, at + 2);
-    curve_to(state, drawing, first, second, point(row, at + 4), out)
+#[derive(Clone, Copy)]
+pub(crate) enum Hinting {
+    Stem(Fixed, Fixed),
+    HintMask(HintMask),
+    CounterMask(HintMask),
+    Clear,
+    Close,
 }
 
-// A call that writes none: 1 stem, 2 hint mask, 3 counter mask, 4 clear, 8 close. Operands start at
-// `at`.
-pub(crate) fn hinted(
-    state: HintState,
-    drawing: Drawing,
-    kind: i32,
-    row: &[i32],
-    at: usize,
-) -> Drawing
-    requires { at ≤ 1000 }
-{
-    if kind == 1 {
-        return hstem(
-            state,
-            drawing,
-            test_tables::fixed(row, at),
-            test_tables::fixed(row, at + 1),
-        );
+impl Call {
+    // The call that starts at a place. Its kind is that of a command of 01's scripts.
+    pub(crate) fn read(row: &[i32], at: usize) -> Call
+        requires { at ≤ 400 }
+    {
+        match test_tables::number(row, at) {
+            1 => Call::Hint(Hinting::Stem(
+                test_tables::fixed(row, at + 1),
+                test_tables::fixed(row, at + 2),
+            )),
+            2 => Call::Hint(Hinting::HintMask(test_tables::mask(row, at + 1))),
+            3 => Call::Hint(Hinting::CounterMask(test_tables::mask(row, at + 1))),
+            4 => Call::Hint(Hinting::Clear),
+            5 => Call::Draw(Path::Move(point(row, at + 1))),
+            6 => Call::Draw(Path::Line(point(row, at + 1))),
+            7 => Call::Draw(Path::Curve(
+                point(row, at + 1),
+                point(row, at + 3),
+                point(row, at + 5),
+            )),
+            9 => Call::Draw(Path::Finish),
+            _ => Call::Hint(Hinting::Close),
+        }
     }
-    if kind == 2 {
-        return hint_mask(state, drawing, test_tables::mask(row, at));
+
+    // How many numbers it takes.
+    pub(crate) fn len(self, row: &[i32], at: usize) -> usize
+        requires { at ≤ 400 }
+        ensures { (1 ≤ result) × (result ≤ 15) }
+    {
+        match self {
+            Call::Draw(Path::Move(_) | Path::Line(_)) | Call::Hint(Hinting::Stem(_, _)) => 3,
+            Call::Draw(Path::Curve(_, _, _)) => 7,
+            Call::Hint(Hinting::HintMask(_) | Hinting::CounterMask(_)) => {
+                2 + test_tables::count(row, at + 1, 13)
+            }
+            _ => 1,
+        }
     }
-    if kind == 3 {
-        return counter_mask(state, drawing, test_tables::mask(row, at));
+}
+
+// A call that writes records.
+pub(crate) fn drawn(state: HintState, drawing: Drawing, path: Path, out: &mut [i32]) -> After {
+    match path {
+        Path::Move(at) => move_to(state, drawing, at, out),
+        Path::Line(at) => line_to(state, drawing, at, out),
+        Path::Curve(first, second, end) => curve_to(state, drawing, first, second, end, out),
+        Path::Finish => finish(state, drawing, out),
     }
-    if kind == 4 {
-        return clear_hints(state, drawing);
+}
+
+// A call that writes none.
+pub(crate) fn hinted(state: HintState, drawing: Drawing, hinting: Hinting) -> Drawing {
+    match hinting {
+        Hinting::Stem(min, max) => hstem(state, drawing, min, max),
+        Hinting::HintMask(mask) => hint_mask(state, drawing, mask),
+        Hinting::CounterMask(mask) => counter_mask(state, drawing, mask),
+        Hinting::Clear => clear_hints(state, drawing),
+        Hinting::Close => close(state, drawing),
     }
-    close(state, drawing)
 }
 
 fn point(row: &[i32], at: usize) -> Point
@@ -77,25 +94,5 @@ fn point(row: &[i32], at: usize) -> Point
     Point {
         x: test_tables::fixed(row, at),
         y: test_tables::fixed(row, at + 1),
-    }
-}
-
-// Whether a call of this kind writes records.
-pub(crate) fn draws(kind: i32) -> bool {
-    match kind {
-        5 | 6 | 7 | 9 => true,
-        _ => false,
-    }
-}
-
-// How many numbers the operands from `at` on are.
-pub(crate) fn operands(kind: i32, row: &[i32], at: usize) -> usize
-    ensures { result ≤ 14 }
-{
-    match kind {
-        1 | 5 | 6 => 2,
-        2 | 3 => 1 + test_tables::count(row, at, 13),
-        7 => 6,
-        _ => 0,
     }
 }

@@ -1,17 +1,17 @@
 // A row: a drawing is opened, and calls are made on it in turn.
-ghost use Rattle.std.specs.Prelude.{◌+◌, ◌≤◌, ◌<◌};
+ghost use Rattle.std.specs.Prelude.{◌+◌, ◌≤◌, ◌<◌, IfSome};
 
-use crate::{calls, lent, openings};
+use crate::calls::{Call, drawn, hinted};
+use crate::{lent, openings};
 use hints::Drawing;
-use pen::CallAnswer;
+use pen::{NoRoom, Path};
 use zones::HintState;
 
-// What a call of a row leaves: the drawing, where the row goes on, and whether all was as expected.
+// What a call of a row leaves: the drawing, and where the row goes on.
 #[derive(Clone, Copy)]
 pub(crate) struct Turn {
     pub drawing: Drawing,
     pub next: usize,
-    pub agrees: bool,
 }
 
 // A row: a scale and parameters, the number of opening's answer, and the calls. No row has more
@@ -21,73 +21,65 @@ pub(crate) fn row_agrees(row: &[i32]) -> bool {
         return false;
     }
     let opened = openings::opened_by(row);
-    let answer = opened.answer;
     let pairs = test_tables::after_pairs(row, 8);
-    if openings::number_of(answer) != test_tables::number(row, pairs) {
+    if openings::number_of(opened.answer) != test_tables::number(row, pairs) {
         return false;
     }
-    let state = opened.state;
     let mut drawing = opened.drawing;
     let mut at = pairs + 1;
     while at < row.len() {
-        let after = call_at(state, drawing, row, at);
-        if !after.agrees {
+        let Some(turn) = call_at(opened.state, drawing, row, at) else {
             return false;
-        }
-        drawing = after.drawing;
-        at = after.next;
+        };
+        drawing = turn.drawing;
+        at = turn.next;
     }
     at == row.len()
 }
 
-// The call at `at`: its kind, its operands and, for one that writes records, what is expected.
-fn call_at(state: HintState, drawing: Drawing, row: &[i32], at: usize) -> Turn
+// The call at `at`: its kind, its operands and, for one that writes records, what is expected. None
+// where that is not what it does.
+fn call_at(state: HintState, drawing: Drawing, row: &[i32], at: usize) -> Option<Turn>
     requires { at ≤ 400 }
-    ensures { (at < result.next) × (result.next ≤ at + 40) }
+    ensures { IfSome result (λ turn. (at < turn.next) × (turn.next ≤ at + 40)) }
 {
-    let kind = test_tables::number(row, at);
-    let next = at + 1 + calls::operands(kind, row, at + 1);
-    if calls::draws(kind) {
-        return drawn_at(state, drawing, row, at, next);
-    }
-    Turn {
-        drawing: calls::hinted(state, drawing, kind, row, at + 1),
-        next,
-        agrees: true,
+    let call = Call::read(row, at);
+    let next = at + call.len(row, at);
+    match call {
+        Call::Draw(path) => drawn_at(state, drawing, path, row, next),
+        Call::Hint(hinting) => Some(Turn {
+            drawing: hinted(state, drawing, hinting),
+            next,
+        }),
     }
 }
 
-// A call that writes records, with what is expected from `answer` on: the room, the number of its
+// A call that writes records, with what is expected from `at` on: the room, the number of its
 // answer, the count of words and the words.
-fn drawn_at(state: HintState, drawing: Drawing, row: &[i32], at: usize, answer: usize) -> Turn
-    requires { (at ≤ 400) × ((at < answer) × (answer ≤ at + 15)) }
-    ensures { (at < result.next) × (result.next ≤ at + 40) }
+fn drawn_at(state: HintState, drawing: Drawing, path: Path, row: &[i32], at: usize) -> Option<Turn>
+    requires { at ≤ 415 }
+    ensures { IfSome result (λ turn. (at < turn.next) × (turn.next ≤ at + 20)) }
 {
-    let kind = test_tables::number(row, at);
     let mut out = lent::FILLED;
-    let end = 3 + test_tables::count(row, answer, 16);
-    let after = calls::drawn(state, drawing, kind, row, at + 1, &mut out[3..end]);
-    let said = after.answer;
-    let left = after.drawing;
-    let mut agrees = lent::words_agree(&out, row, answer + 2);
-    if !answer_agrees(said, row, answer + 1) {
-        agrees = false;
+    let end = 3 + test_tables::count(row, at, 16);
+    let after = drawn(state, drawing, path, &mut out[3..end]);
+    if !answer_agrees(after.answer, row, at + 1) || out != lent::expected(row, at + 2) {
+        return None;
     }
-    Turn {
-        drawing: left,
-        next: answer + 3 + test_tables::count(row, answer + 2, 16),
-        agrees,
-    }
+    Some(Turn {
+        drawing: after.drawing,
+        next: at + 3 + test_tables::count(row, at + 2, 16),
+    })
 }
 
 // From `at` on: the number of the answer and the count of words. A refused call answers 0 words.
-fn answer_agrees(answer: CallAnswer, row: &[i32], at: usize) -> bool
+fn answer_agrees(answer: Result<usize, NoRoom>, row: &[i32], at: usize) -> bool
     requires { at ≤ 1000 }
 {
     let number = test_tables::number(row, at);
     let count = test_tables::count(row, at + 1, 16);
     match answer {
-        CallAnswer::Wrote(n) => number == 0 && count == n,
-        CallAnswer::NoRoom => number == 6 && count == 0,
+        Ok(n) => number == 0 && count == n,
+        Err(NoRoom) => number == 6 && count == 0,
     }
 }

@@ -8,21 +8,25 @@ mod calls;
 mod cases;
 mod lent;
 mod openings;
-mod tables;
 
 use std::io;
 
 fn main(rt: HostRuntime) -> io::Result<()> {
     let mut input = rt.stdin();
-    tables::run(&rt, &mut input, b"worked by hand")?;
-    tables::run(&rt, &mut input, b"openings")?;
-    tables::run(&rt, &mut input, b"paths of three calls")?;
-    tables::run(&rt, &mut input, b"rooms")?;
-    tables::run(&rt, &mut input, b"stems")?;
-    tables::run(&rt, &mut input, b"masks")?;
-    tables::run(&rt, &mut input, b"counter masks")?;
-    tables::run(&rt, &mut input, b"clears")?;
-    tables::run(&rt, &mut input, b"refusals")?;
-    tables::run(&rt, &mut input, b"all calls")?;
-    tables::run(&rt, &mut input, b"ends of the range")
+    for name in [
+        "worked by hand",
+        "openings",
+        "paths of three calls",
+        "rooms",
+        "stems",
+        "masks",
+        "counter masks",
+        "clears",
+        "refusals",
+        "all calls",
+        "ends of the range",
+    ] {
+        test_tables::run_table(&rt, &mut input, name, cases::row_agrees)?;
+    }
+    Ok(())
 }

@@ -1,5 +1,5 @@
 // Opening a drawing by what a row gives.
-use drawing::{Opened, Opening, open};
+use drawing::{OpenRefusal, Opened, open};
 
 // A drawing at the row's scale and parameters, or the one beside a refusal. A list has up to eight
 // pairs.
@@ -8,10 +8,10 @@ pub(crate) fn opened_by(row: &[i32]) -> Opened {
 }
 
 // The answer's number in 01's table.
-pub(crate) fn number_of(answer: Opening) -> i32 {
+pub(crate) fn number_of(answer: Result<(), OpenRefusal>) -> i32 {
     match answer {
-        Opening::Ok => 0,
-        Opening::BadScale => 2,
-        Opening::BadBlues => 3,
+        Ok(()) => 0,
+        Err(OpenRefusal::BadScale) => 2,
+        Err(OpenRefusal::BadBlues) => 3,
     }
 }

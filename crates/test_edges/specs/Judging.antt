@@ -1,10 +1,9 @@
 -- How a list of edges is judged by what is stored for it. A case starts with ten words.
-use Rattle.std.specs.Prelude.{Bool, ◌&&◌, List, ℕ, ◌+◌, ◌*◌, eqb}
+use Rattle.std.specs.Prelude.{Bool, ◌&&◌, List, ℕ, ◌+◌, ◌*◌, eqb, Option}
 use Rattle.words.specs.Words.{raw_at}
 use Rattle.listing.specs.declared.summary.Summary.{Summary}
-use Rattle.overlay.specs.declared.answer.SeenAnswer.{SeenAnswer}
-use Rattle.overlay.specs.Seen.{SeenResult, seen_number, seen_place, seen_summary}
-use Rattle.test_tables.specs.declared.verdict.Verdict.{Verdict}
+use Rattle.overlay.specs.Seen.{SeenAnswer, SeenResult, seen_number, seen_place, seen_summary}
+use Rattle.test_tables.specs.declared.verdict.Difference.{Difference}
 use Rattle.test_tables.specs.Verdicts.{verdict_on}
 
 -- ---- what is asked: the commands are counted in words 1 and 2
@@ -26,5 +25,5 @@ same_answer head a =
     same_summary head (seen_summary a))
 
 -- ---- the verdict
-unfoldable pub verdict_of : List ℕ → List ℕ → SeenResult → Verdict
+unfoldable pub verdict_of : List ℕ → List ℕ → SeenResult → Option Difference
 verdict_of head stored r = verdict_on (same_answer head r.answer) r.left stored

@@ -5,12 +5,17 @@ ghost use Rattle.test_edges.specs.Judging.{command_count, same_summary, same_ans
 
 use crate::row;
 use listing::Summary;
-use overlay::{SeenAnswer, see_edges};
-use test_tables::{Verdict, judge};
+use overlay::{SeenAnswer, code, place, see_edges, summary};
+use test_tables::{Difference, judge};
 use words::natural;
 
 // Lists the edges.
-pub(crate) fn judged(head: &[u8], script: &[u8], stored: &[u8], list: &mut [i32]) -> Verdict
+pub(crate) fn judged(
+    head: &[u8],
+    script: &[u8],
+    stored: &[u8],
+    list: &mut [i32],
+) -> Option<Difference>
     requires { (40 ≤ length head.now) × (4 * length list.old ≤ length stored.now) }
     ensures { result ≡ verdict_of head.now stored.now
         (seen_of script.now (command_count head.now) list.old) }
@@ -30,27 +35,17 @@ fn same_answer(head: &[u8], answer: SeenAnswer) -> bool
     requires { 40 ≤ length head.now }
     ensures { result ≡ same_answer head.now answer }
 {
-    if answer.code() as usize != natural(head, row::NUMBER) {
-        return false;
-    }
-    if answer.place() != natural(head, row::PLACE) {
-        return false;
-    }
-    same_summary(head, answer.summary())
+    code(answer) as usize == natural(head, row::NUMBER)
+        && place(answer) == natural(head, row::PLACE)
+        && same_summary(head, summary(answer))
 }
 
 pub(crate) fn same_summary(head: &[u8], summary: Summary) -> bool
     requires { 40 ≤ length head.now }
     ensures { result ≡ same_summary head.now summary }
 {
-    if summary.edges != natural(head, row::EDGES) {
-        return false;
-    }
-    if summary.pairs != natural(head, row::PAIRS) {
-        return false;
-    }
-    if summary.ghosts != natural(head, row::GHOSTS) {
-        return false;
-    }
-    summary.locked == natural(head, row::LOCKED)
+    summary.edges == natural(head, row::EDGES)
+        && summary.pairs == natural(head, row::PAIRS)
+        && summary.ghosts == natural(head, row::GHOSTS)
+        && summary.locked == natural(head, row::LOCKED)
 }

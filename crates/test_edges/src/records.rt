@@ -4,11 +4,11 @@ ghost use Rattle.std.specs.Prelude.{◌+◌, ◌*◌, ◌≤◌, length};
 use crate::judging::{commands, same_summary};
 use crate::lent::{LENT_RECORDS, Lent, lend_list};
 use crate::row;
-use listing::EdgeRecord;
+use listing::{EdgeRecord, code, kind_number, list_summary};
 use script::{check_script, map_after};
 use stems::Kind;
-use test_tables::Verdict;
-use words::{natural, number};
+use test_tables::Difference;
+use words::{natural, number, word};
 
 const RECORD_WORDS: usize = 6;
 
@@ -19,12 +19,16 @@ pub(crate) const LENT_WORDS: usize = RECORD_WORDS * LENT_RECORDS;
 const LENT_STEM: u8 = 77;
 
 // Lists the edges of a script, which no case of these refuses.
-pub(crate) fn judged_records(head: &[u8], script: &[u8], lent: &[u8], stored: &[u8]) -> Verdict
+pub(crate) fn judged_records(
+    head: &[u8],
+    script: &[u8],
+    lent: &[u8],
+    stored: &[u8],
+) -> Option<Difference>
     requires { (40 ≤ length head.now) × ((12 ≤ length lent.now) × (288 ≤ length stored.now)) }
 {
-    let fault = check_script(script);
-    if fault.code() != 0 {
-        return Verdict::Answer;
+    if check_script(script).is_err() {
+        return Some(Difference::Answer);
     }
     let fill = EdgeRecord {
         height: number(lent, 0),
@@ -41,55 +45,32 @@ pub(crate) fn judged_records(head: &[u8], script: &[u8], lent: &[u8], stored: &[
     )
 }
 
-fn compared_records(head: &[u8], stored: &[u8], left: Lent) -> Verdict
+fn compared_records(head: &[u8], stored: &[u8], left: Lent) -> Option<Difference>
     requires { (40 ≤ length head.now) × (288 ≤ length stored.now) }
 {
     let answer = left.answer;
-    if answer.code() as usize != natural(head, row::NUMBER) {
-        return Verdict::Answer;
+    if code(answer) as usize != natural(head, row::NUMBER)
+        || !same_summary(head, list_summary(answer))
+    {
+        return Some(Difference::Answer);
     }
-    if !same_summary(head, answer.summary()) {
-        return Verdict::Answer;
-    }
-    for i in 0..LENT_RECORDS {
+    for (i, record) in left.records.iter().enumerate() {
         let at = RECORD_WORDS * i;
-        if !same_record(left.records[i], stored, at) {
-            return Verdict::Word(at);
+        if !same_record(*record, stored, at) {
+            return Some(Difference::Word(at));
         }
     }
-    Verdict::Same
+    None
 }
 
 // Whether a record is the one that is stored from a word on.
 fn same_record(record: EdgeRecord, stored: &[u8], at: usize) -> bool
     requires { (at ≤ 66) × (4 * (at + 6) ≤ length stored.now) }
 {
-    if !record.height.same(number(stored, at)) {
-        return false;
-    }
-    if !record.device.same(number(stored, at + 1)) {
-        return false;
-    }
-    if !record.scale.same(number(stored, at + 2)) {
-        return false;
-    }
-    let kind = record.kind;
-    if kind_number(kind) != natural(stored, at + 3) {
-        return false;
-    }
-    if record.stem as usize != natural(stored, at + 4) {
-        return false;
-    }
-    record.locked as usize == natural(stored, at + 5)
-}
-
-// The number that a list of words has for a kind. No edge of a map is absent.
-fn kind_number(kind: Kind) -> usize {
-    match kind {
-        Kind::GhostBottom => 0,
-        Kind::GhostTop => 1,
-        Kind::PairBottom => 2,
-        Kind::PairTop => 3,
-        Kind::Absent => 4,
-    }
+    record.height == number(stored, at)
+        && record.device == number(stored, at + 1)
+        && record.scale == number(stored, at + 2)
+        && kind_number(record.kind) == word(stored, at + 3)
+        && record.stem as usize == natural(stored, at + 4)
+        && record.locked as usize == natural(stored, at + 5)
 }

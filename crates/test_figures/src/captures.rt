@@ -1,8 +1,6 @@
 // Captures of stems' edges by zones. The expected values are those of model/zones.py.
 ghost use Rattle.std.specs.Prelude.{◌≤◌};
 
-use crate::tables;
-use crate::tables::Rows;
 use fixed::Fixed;
 use std::io;
 use std::io::Read;
@@ -10,28 +8,21 @@ use stems::{Hint, Side, StemHint};
 use zones::HintState;
 
 pub(crate) fn run<R: Read>(rt: &impl Print, input: &mut R) -> io::Result<()> {
-    tables::run(rt, input, b"captures", Rows::Captures)
+    test_tables::run_table(rt, input, "captures", captures_agree)
 }
 
 // A row: a scale and parameters, a count of stems, and to the end seven numbers for each.
-pub(crate) fn captures_agree(row: &[i32]) -> bool {
+fn captures_agree(row: &[i32]) -> bool {
     let state = test_tables::state(row);
     let at = test_tables::after_pairs(row, 7);
     let stems = test_tables::count(row, at, 20);
-    if row.len() != at + 1 + 7 * stems {
-        return false;
-    }
-    for i in 0..stems {
-        if !capture_agrees(state, row, at + 1 + 7 * i) {
-            return false;
-        }
-    }
-    true
+    row.len() == at + 1 + 7 * stems
+        && (0..stems).all(|i| capture_agrees(&state, row, at + 1 + 7 * i))
 }
 
 // From `at` on: a stem's ends, 1 if it is captured, and of the bottom edge and of the top edge 1 if
 // it is locked and the device height.
-fn capture_agrees(state: HintState, row: &[i32], at: usize) -> bool
+fn capture_agrees(state: &HintState, row: &[i32], at: usize) -> bool
     requires { at ≤ 300 }
 {
     if 12 < state.zone_count {
@@ -47,20 +38,13 @@ fn capture_agrees(state: HintState, row: &[i32], at: usize) -> bool
     let bottom = Hint::setup(stem, 0, state.scale, Side::Bottom);
     let top = Hint::setup(stem, 0, state.scale, Side::Top);
     let after = state.capture(bottom, top);
-    if after.captured != test_tables::flag(row, at + 2) {
-        return false;
-    }
-    if !edge_agrees(after.bottom, row, at + 3) {
-        return false;
-    }
-    edge_agrees(after.top, row, at + 5)
+    after.captured == test_tables::flag(row, at + 2)
+        && edge_agrees(after.bottom, row, at + 3)
+        && edge_agrees(after.top, row, at + 5)
 }
 
 fn edge_agrees(edge: Hint, row: &[i32], at: usize) -> bool
     requires { at ≤ 400 }
 {
-    if edge.locked != test_tables::flag(row, at) {
-        return false;
-    }
-    edge.ds_coord.bits == test_tables::number(row, at + 1)
+    edge.locked == test_tables::flag(row, at) && edge.ds_coord == test_tables::fixed(row, at + 1)
 }

@@ -9,7 +9,6 @@ mod edges;
 mod masks;
 mod operations;
 mod states;
-mod tables;
 
 use std::io;
 

@@ -5,7 +5,7 @@ use crate::judging::judged;
 use crate::row;
 use std::io;
 use std::io::Read;
-use test_tables::{Verdict, read_bytes};
+use test_tables::{Difference, read_bytes};
 use words::{natural, read_words};
 
 // There is place for the largest case that is stored.
@@ -18,24 +18,23 @@ const HELD_BYTES: usize = 64;
 // The bytes of all parts of a case.
 const HELD_CASE: usize = 4 * (HELD_WORDS + 2 * HELD_OUTPUT) + HELD_BYTES;
 
-#[derive(Clone, Copy)]
-pub(crate) enum Seen {
-    // The file ends within the case, or the case is too large.
-    Cut,
-    Run(Verdict),
-}
-
-pub(crate) fn case<R: Read>(file: &mut R) -> io::Result<Seen> {
+// What first differs in the next case; none where the file ends within the case, or where the case is
+// too large.
+pub(crate) fn case<R: Read>(file: &mut R) -> io::Result<Option<Option<Difference>>> {
     let mut head = [0u8; row::HEAD];
     if !read_bytes(file, &mut head)? {
-        return Ok(Seen::Cut);
+        return Ok(None);
     }
     let mut case = [0u8; HELD_CASE];
     read_sized(file, &head, &mut case)
 }
 
 // Reads as many bytes as the case has.
-fn read_sized<R: Read>(file: &mut R, head: &[u8], case: &mut [u8]) -> io::Result<Seen>
+fn read_sized<R: Read>(
+    file: &mut R,
+    head: &[u8],
+    case: &mut [u8],
+) -> io::Result<Option<Option<Difference>>>
     requires { 40 ≤ length head.now }
 {
     let commands = natural(head, row::PARAMS);
@@ -45,12 +44,12 @@ fn read_sized<R: Read>(file: &mut R, head: &[u8], case: &mut [u8]) -> io::Result
     let bytes = natural(head, row::MASKS);
     let end = 4 * (given + 2 * room + (bytes + 3) / 4);
     if HELD_WORDS < given || HELD_OUTPUT < room || case.len() < end {
-        return Ok(Seen::Cut);
+        return Ok(None);
     }
     if !read_bytes(file, &mut case[..end])? {
-        return Ok(Seen::Cut);
+        return Ok(None);
     }
-    Ok(Seen::Run(run_case(head, case, commands, lengths, given, room, bytes)))
+    Ok(Some(run_case(head, case, commands, lengths, given, room, bytes)))
 }
 
 // Lends as many words as the case says.
@@ -62,7 +61,7 @@ fn run_case(
     given: usize,
     room: usize,
     bytes: usize,
-) -> Verdict
+) -> Option<Difference>
     requires { (40 ≤ length head.now) × ((commands ≤ lengths) × ((lengths ≤ given) ×
         ((given ≤ 1200) × ((room ≤ 800) × (4 * (given + 2 * room + (bytes + 3) / 4) ≤ length case.now))))) }
 {
@@ -89,7 +88,7 @@ fn run_parts(
     bytes: usize,
     words: &mut [i32],
     out: &mut [i32],
-) -> Verdict
+) -> Option<Difference>
     requires { (40 ≤ length head.now) × ((commands ≤ lengths) × ((lengths ≤ length words.old) ×
         (4 * (length words.old + 2 * length out.old + (bytes + 3) / 4) ≤ length case.now))) }
 {
@@ -108,7 +107,7 @@ fn run_given(
     bytes: usize,
     words: &[i32],
     out: &mut [i32],
-) -> Verdict
+) -> Option<Difference>
     requires { (40 ≤ length head.now) × ((commands ≤ lengths) × ((lengths ≤ length words.now) ×
         (4 * (length words.now + 2 * length out.old + (bytes + 3) / 4) ≤ length case.now))) }
 {

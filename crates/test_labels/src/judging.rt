@@ -7,7 +7,7 @@ ghost use Rattle.test_labels.specs.Judging.{same_answer, verdict_of};
 
 use crate::row;
 use labels::{LabelAnswer, run_labels};
-use test_tables::{Verdict, judge};
+use test_tables::{Difference, judge};
 use words::{natural, number};
 use writer::params_from;
 
@@ -20,7 +20,7 @@ pub(crate) fn judged(
     masks: &[u8],
     stored: &[u8],
     out: &mut [i32],
-) -> Verdict
+) -> Option<Difference>
     requires { (40 ≤ length head.now) × (4 * length out.old ≤ length stored.now) }
     ensures { result ≡ verdict_of head.now stored.now
         (labels_of
@@ -37,14 +37,8 @@ fn same_answer(head: &[u8], answer: LabelAnswer) -> bool
     requires { 40 ≤ length head.now }
     ensures { result ≡ same_answer head.now answer }
 {
-    if answer.code() as usize != natural(head, row::NUMBER) {
-        return false;
-    }
-    if answer.glyph() != natural(head, row::GLYPH) {
-        return false;
-    }
-    if answer.place() != natural(head, row::PLACE) {
-        return false;
-    }
-    answer.written() == natural(head, row::WRITTEN)
+    labels::code(answer) as usize == natural(head, row::NUMBER)
+        && labels::glyph(answer) == natural(head, row::GLYPH)
+        && labels::place(answer) == natural(head, row::PLACE)
+        && labels::written(answer) == natural(head, row::WRITTEN)
 }

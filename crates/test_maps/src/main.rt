@@ -7,7 +7,6 @@ mod builds;
 mod edges;
 mod maps;
 mod room;
-mod tables;
 
 use std::io;
 

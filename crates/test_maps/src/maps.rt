@@ -4,8 +4,7 @@ ghost use Rattle.stems.specs.Edge.{max_hints};
 ghost use Rattle.stems.specs.Lists.{Whole};
 ghost use Rattle.hintmap.specs.Lent.{Lent};
 
-use crate::tables::Rows;
-use crate::{edges, tables};
+use crate::edges;
 use fixed::Fixed;
 use hintmap::{Edges, HintMap, insert_edges};
 use std::io;
@@ -13,12 +12,12 @@ use std::io::Read;
 use stems::{Hint, LINES, Side, StemHint, TAGS};
 
 pub(crate) fn run<R: Read>(rt: &impl Print, input: &mut R) -> io::Result<()> {
-    tables::run(rt, input, b"maps edge by edge", Rows::Maps)
+    test_tables::run_table(rt, input, "maps edge by edge", map_agrees)
 }
 
 // A row: a scale, 1 if the initial map is given, the stems of that map and those of the map; the
 // map's edges, and heights.
-pub(crate) fn map_agrees(row: &[i32]) -> bool {
+fn map_agrees(row: &[i32]) -> bool {
     let scale = test_tables::fixed(row, 1);
     let none = [0i32; LINES];
     let mut base = [0i32; LINES];
@@ -31,10 +30,7 @@ pub(crate) fn map_agrees(row: &[i32]) -> bool {
     let len = put_stems(&mut lines, &mut tags, row, then, scale, &base, size, given);
     let at = after_stems(row, then);
     let map = HintMap::from_lists(&lines, &tags, len, scale);
-    if !edges::edges_agree(map, row, at) {
-        return false;
-    }
-    edges::heights_agree(map, row, edges::after_edges(row, at))
+    edges::edges_agree(&map, row, at) && edges::heights_agree(map, row, edges::after_edges(row, at))
 }
 
 // The stems are put into a map with no edges: from `at` on their count, and five numbers for each.

@@ -17,7 +17,7 @@ pub(crate) fn run(rt: &impl Print) -> io::Result<()> {
     let few = differs(94, pair, 96) + differs(94, single, 95);
     let one_left = differs(95, pair, 95) + differs(95, single, 96);
     let full = differs(96, pair, 96) + differs(96, single, 96);
-    test_tables::counts(rt, b"room for edges", 6, few + one_left + full)
+    test_tables::counts(rt, "room for edges", 6, few + one_left + full)
 }
 
 // 1 if a map of so many edges has another number of them than expected once the stem comes, or else
@@ -28,19 +28,8 @@ fn differs(edges: usize, stem: StemHint, expected: usize) -> usize
     let mut lines = [0i32; LINES];
     let mut tags = [0u8; TAGS];
     let len = put_ghosts(&mut lines, &mut tags, edges);
-    if len != edges {
-        return 1;
-    }
-    let after = insert_edges(
-        &mut lines,
-        &mut tags,
-        len,
-        maps::edges_of(stem, 0, Fixed::ONE),
-    );
-    if after != expected {
-        return 1;
-    }
-    0
+    let put = maps::edges_of(stem, 0, Fixed::ONE);
+    (len != edges || insert_edges(&mut lines, &mut tags, len, put) != expected) as usize
 }
 
 // So many single edges, at 0.0, 1.0 and on, are put into a map with no edges. Gives its length.

@@ -1,4 +1,3 @@
-pub mod Turns
 pub mod Verdicts
 pub mod SameBytes
 pub mod Outcomes

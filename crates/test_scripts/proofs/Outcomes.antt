@@ -1,12 +1,11 @@
 -- What becomes of a script, by what the reader and the writer say of it. Assumes nothing.
 use Rattle.std.proofs.Common.{◌≡◌, ℕ, ◌<◌, ◌≤◌, Bool, true, false, List, length, take, drop, ℤ, sym, refl, arith}
 use Rattle.std.proofs.Common.{length-append}
-use Rattle.words.specs.declared.answer.Answer.{Answer}
-use Rattle.words.specs.Answers.{number_of, refuses, first_of}
+use Rattle.words.specs.Answers.{Answer, number_of, refuses, first_of}
 use Rattle.words.proofs.Answers.{not-refused}
 use Rattle.script.proofs.Passed.{passed}
 use Rattle.script.proofs.Results.{refused, taken}
-use Rattle.writer.specs.declared.write_answer.WriteAnswer.{WriteAnswer}
+use Rattle.writer.specs.Refusals.{WriteAnswer}
 use Rattle.writer.specs.ToWrite.{Given, given}
 use Rattle.words.specs.Bytes.{over}
 use Rattle.writer.specs.Refusals.{write_of, Wrote}

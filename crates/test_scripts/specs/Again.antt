@@ -1,7 +1,7 @@
 -- What becomes of a script that is read back and written again.
 use Rattle.std.specs.Prelude.{ℕ, Bool, true, false, cond, ◌&&◌, List, [], ◌∷◌, length, take, ℤ, ◌==◌}
 use Rattle.words.specs.Answers.{refuses}
-use Rattle.writer.specs.declared.write_answer.WriteAnswer.{WriteAnswer}
+use Rattle.writer.specs.Refusals.{WriteAnswer}
 use Rattle.writer.specs.ToWrite.{Given, given}
 use Rattle.writer.specs.Refusals.{written_bytes, write_refuses, write_of}
 use Rattle.readback.specs.ReadBack.{ReadResult, read_back_of}

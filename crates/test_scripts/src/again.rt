@@ -1,12 +1,12 @@
 // A script is read back and written again.
 ghost use Rattle.std.specs.Prelude.{◌≡◌, ◌≤◌, length, take, replicate, pos};
-ghost use Rattle.test_scripts.specs.Again.{same_bytes, written_as, write_again_of};
+ghost use Rattle.test_scripts.specs.Again.{written_as, write_again_of};
 
 use readback::read_back;
 use writer::{WriteAnswer, write_script};
 
 // What becomes of a script.
-#[derive(Clone, Copy)]
+#[derive(Clone, Copy, Debug, PartialEq, Eq)]
 pub(crate) enum Again {
     // The reader refuses it.
     NotRead,
@@ -21,32 +21,17 @@ const HELD_WORDS: usize = 16400;
 
 const HELD_BYTES: usize = 65600;
 
-// Whether two buffers hold the same bytes, and as many.
-fn same_bytes(a: &[u8], b: &[u8]) -> bool
-    ensures { result ≡ same_bytes a.now b.now }
-{
-    if a.len() != b.len() {
-        return false;
-    }
-    for i in 0..a.len() {
-        if a[i] != b[i] {
-            return false;
-        }
-    }
-    true
-}
-
 // What the writer says and leaves, compared with the script.
 fn compared(script: &[u8], answer: WriteAnswer, left: &[u8]) -> Again
     ensures { result ≡ written_as script.now answer left.now }
 {
-    if answer.code() != 0 {
+    if writer::code(answer) != 0 {
         return Again::Refused;
     }
-    if answer.written() != script.len() {
+    if writer::written(answer) != script.len() {
         return Again::OtherBytes;
     }
-    if same_bytes(left, script) {
+    if left == script {
         return Again::SameBytes;
     }
     Again::OtherBytes
@@ -58,8 +43,7 @@ fn write_again(script: &[u8], commands: &mut [i32], masks: &mut [u8], written: &
         written.old }
 {
     let back = read_back(script, commands, masks);
-    let answer = back.answer;
-    if answer.code() != 0 {
+    if back.answer.is_err() {
         return Again::NotRead;
     }
     let words = back.commands;

@@ -22,15 +22,13 @@ impl AgainTally {
     }
 
     // One script more.
-    pub(crate) fn with(self, again: Again) -> AgainTally {
-        let mut tally = self;
+    pub(crate) fn count(&mut self, again: Again) {
         match again {
-            Again::SameBytes => tally.same_bytes = wrapping_add_usize(tally.same_bytes, 1),
-            Again::OtherBytes => tally.other_bytes = wrapping_add_usize(tally.other_bytes, 1),
-            Again::Refused => tally.refused = wrapping_add_usize(tally.refused, 1),
-            Again::NotRead => tally.not_read = wrapping_add_usize(tally.not_read, 1),
+            Again::SameBytes => self.same_bytes = wrapping_add_usize(self.same_bytes, 1),
+            Again::OtherBytes => self.other_bytes = wrapping_add_usize(self.other_bytes, 1),
+            Again::Refused => self.refused = wrapping_add_usize(self.refused, 1),
+            Again::NotRead => self.not_read = wrapping_add_usize(self.not_read, 1),
         }
-        tally
     }
 
     pub(crate) fn say(self, rt: &impl Print) -> io::Result<()> {

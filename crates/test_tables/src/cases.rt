@@ -1,6 +1,8 @@
 // Cases in a file: tables one behind the other, each with the count of its cases in front, as words
 // of four bytes. What a program says of a case, which it counts from 0.
-use crate::input::{next_count, read_full};
+use crate::rows::next_count;
+use input::read_full;
+use std::fmt::Display;
 use std::io;
 use std::io::Read;
 
@@ -24,26 +26,17 @@ pub fn end_of_cases<R: Read>(rt: &impl Print, file: &mut R) -> io::Result<()> {
     Ok(())
 }
 
-fn of_case(rt: &impl Print, i: usize) -> io::Result<()> {
-    print!(rt; "case {i}: ")
-}
-
 // A case cannot be read.
 pub fn case_cut(rt: &impl Print, i: usize) -> io::Result<()> {
-    of_case(rt, i)?;
-    println!(rt; "cut off or too large")
+    println!(rt; "case {i}: cut off or too large")
 }
 
 // What of a case first differs from what is stored.
-pub fn case_differs(rt: &impl Print, i: usize, what: &[u8]) -> io::Result<()> {
-    of_case(rt, i)?;
-    rt.write_all(what)?;
-    println!(rt; " differs")
+pub fn case_differs<D: Display>(rt: &impl Print, i: usize, what: &D) -> io::Result<()> {
+    println!(rt; "case {i}: {what} differs")
 }
 
 // The same of one of many, by its number.
-pub fn case_differs_at(rt: &impl Print, i: usize, what: &[u8], at: usize) -> io::Result<()> {
-    of_case(rt, i)?;
-    rt.write_all(what)?;
-    println!(rt; "{at} differs")
+pub fn case_differs_at(rt: &impl Print, i: usize, what: &str, at: usize) -> io::Result<()> {
+    println!(rt; "case {i}: {what}{at} differs")
 }

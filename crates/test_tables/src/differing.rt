@@ -10,9 +10,9 @@ pub fn first_word(left: &[i32], stored: &[u8]) -> usize
     requires { 4 * length left.now ≤ length stored.now }
     ensures { result ≡ first_word left.now stored.now }
 {
-    for i in 0..left.len() {
-        let word = Fixed { bits: left[i] };
-        if !word.same(number(stored, i)) {
+    for (i, bits) in left.iter().enumerate() {
+        let differs = number(stored, i) != (Fixed { bits: *bits });
+        if differs {
             return i;
         }
     }

@@ -2,16 +2,13 @@
 ghost use Rattle.std.specs.Prelude.{◌≡◌};
 ghost use Rattle.test_tables.specs.Given.{number_in, fixed_in, flag_in, whole_of, count_in};
 
-use fixed::{Fixed, least};
+use fixed::Fixed;
 
 // A number of the row, or 0 past its end.
 pub fn number(row: &[i32], at: usize) -> i32
     ensures { result ≡ number_in row.now at }
 {
-    if at < row.len() {
-        return row[at];
-    }
-    0
+    row.get(at).copied().unwrap_or(0)
 }
 
 pub fn flag(row: &[i32], at: usize) -> bool
@@ -32,15 +29,12 @@ pub fn fixed(row: &[i32], at: usize) -> Fixed
 pub fn count(row: &[i32], at: usize, most: usize) -> usize
     ensures { result ≡ count_in row.now at most }
 {
-    least(most, whole(number(row, at)))
+    whole(number(row, at)).min(most)
 }
 
 // A number without a sign, 0 for one below 0.
 fn whole(n: i32) -> usize
     ensures { result ≡ whole_of n }
 {
-    if n < 0 {
-        return 0;
-    }
-    n as usize
+    usize::try_from(n).unwrap_or(0)
 }

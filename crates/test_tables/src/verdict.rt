@@ -2,40 +2,48 @@
 ghost use Rattle.std.specs.Prelude.{◌≡◌, ◌*◌, ◌≤◌, length};
 ghost use Rattle.test_tables.specs.Verdicts.{verdict_on};
 
-use crate::cases::{case_differs, case_differs_at};
+use crate::cases::case_differs;
 use crate::differing::first_word;
-use std::io;
+use std::fmt::Display;
 use std::num::wrapping_add_usize;
+use std::{fmt, io};
 
 // So many differences of a table are said.
 const MOST_SAID: usize = 10;
 
-#[derive(Clone, Copy)]
-pub enum Verdict {
-    Same,
-    // The answer.
+// The answer, or a word of what is left with it.
+#[derive(Clone, Copy, Debug, PartialEq, Eq)]
+pub enum Difference {
     Answer,
-    // A word of what is left.
     Word(usize),
 }
 
-// The verdict where the answer is the stored one or not, on words that are left with it.
-pub fn judge(same: bool, left: &[i32], stored: &[u8]) -> Verdict
+impl Display for Difference {
+    fn fmt<W: fmt::Write>(&self, f: &mut fmt::Formatter<W>) -> fmt::Result {
+        match *self {
+            Difference::Answer => write!(f, "the answer"),
+            Difference::Word(at) => write!(f, "word {at}"),
+        }
+    }
+}
+
+// What differs first where the answer is the stored one or not, on words that are left with it.
+pub fn judge(same: bool, left: &[i32], stored: &[u8]) -> Option<Difference>
     requires { 4 * length left.now ≤ length stored.now }
     ensures { result ≡ verdict_on same left.now stored.now }
 {
     if !same {
-        return Verdict::Answer;
+        return Some(Difference::Answer);
     }
     let first = first_word(left, stored);
     if first < left.len() {
-        return Verdict::Word(first);
+        return Some(Difference::Word(first));
     }
-    Verdict::Same
+    None
 }
 
 // How many cases were run, and how many of them differ.
-#[derive(Clone, Copy)]
+#[derive(Clone, Copy, Debug, PartialEq, Eq)]
 pub struct Tally {
     pub run: usize,
     pub differ: usize,
@@ -47,24 +55,20 @@ impl Tally {
     }
 
     // One case more, the case `i` of its table; says where it differs, if it does.
-    pub fn with(self, rt: &impl Print, i: usize, verdict: Verdict) -> io::Result<Tally> {
+    pub fn with<D: Display + Drop>(
+        self,
+        rt: &impl Print,
+        i: usize,
+        difference: Option<D>,
+    ) -> io::Result<Tally> {
         let mut tally = self;
-        if tally.differ < MOST_SAID {
-            difference(rt, i, verdict)?;
-        }
         tally.run = wrapping_add_usize(tally.run, 1);
-        let Verdict::Same = verdict else {
+        if let Some(what) = difference {
+            if tally.differ < MOST_SAID {
+                case_differs(rt, i, &what)?;
+            }
             tally.differ = wrapping_add_usize(tally.differ, 1);
-            return Ok(tally);
-        };
+        }
         Ok(tally)
-    }
-}
-
-fn difference(rt: &impl Print, i: usize, verdict: Verdict) -> io::Result<()> {
-    match verdict {
-        Verdict::Same => Ok(()),
-        Verdict::Answer => case_differs(rt, i, b"the answer"),
-        Verdict::Word(at) => case_differs_at(rt, i, b"word ", at),
     }
 }

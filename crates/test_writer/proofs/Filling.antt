@@ -1,6 +1,6 @@
--- One turn of a loop that fills a buffer, and its end. Assumes nothing.
-use Rattle.std.proofs.Common.{◌≡◌, ℕ, ◌+◌, ◌<◌, List, [], ◌∷◌, ◌++◌, length, take, set, sym, ap, ◌∙◌, add-one, arith}
-use Rattle.std.proofs.Common.{take_all, take-suc-set}
+-- One turn of a loop that fills a buffer. Assumes nothing.
+use Rattle.std.proofs.Common.{◌≡◌, ℕ, ◌+◌, ◌<◌, List, [], ◌∷◌, ◌++◌, length, take, set, ap, ◌∙◌, add-one}
+use Rattle.std.proofs.Common.{take-suc-set}
 use Rattle.test_writer.specs.Lending.{filled}
 
 module _ {A : Type 0} (f : ℕ → A) (out : List A) (i : ℕ) where
@@ -11,7 +11,3 @@ module _ {A : Type 0} (f : ℕ → A) (out : List A) (i : ℕ) where
   filled_more x e h p =
       rw (add-one, take-suc-set out i x h)
       (ap (λ (l : List A). l ++ (x ∷ [])) p ∙ ap (λ (y : A). filled f i ++ (y ∷ [])) e)
-
-  -- all places are filled
-  pub filled-all : (n : ℕ) → length out ≡ n → i ≡ n → take i out ≡ filled f i → out ≡ filled f n
-  filled-all n l e p = sym (take_all i out (omega arith)) ∙ p ∙ ap (filled f) e

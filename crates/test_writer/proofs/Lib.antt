@@ -1,3 +1,4 @@
 pub mod Filling
 pub mod Verdicts
 pub mod Results
+pub mod Agreeing

@@ -1,6 +1,6 @@
 -- What a call says and leaves is its whole result. Assumes nothing.
 use Rattle.std.proofs.Common.{◌≡◌, ℕ, List, ℤ}
-use Rattle.writer.specs.declared.write_answer.WriteAnswer.{WriteAnswer}
+use Rattle.writer.specs.Refusals.{WriteAnswer}
 use Rattle.writer.specs.Refusals.{WriteResult, Wrote}
 use Rattle.readback.specs.declared.reading_back.ReadBack.{ReadBack}
 use Rattle.readback.specs.ReadBack.{ReadResult, ReadAs}

@@ -12,15 +12,16 @@ use crate::comparing::{first_byte, same_params};
 use crate::lending::{lend_bytes, lend_words};
 use crate::{read_row, write_row};
 use readback::{ReadBack, read_back};
+use std::fmt;
+use std::fmt::Display;
 use test_tables::first_word;
 use words::{natural, number};
 use writer::{WriteAnswer, params_from, write_script};
 
 // What first differs from what is stored. A word is one of the buffer for commands, and a byte one
 // of the buffer for the script or for masks.
-#[derive(Clone, Copy)]
-pub(crate) enum Verdict {
-    Same,
+#[derive(Clone, Copy, Debug, PartialEq, Eq)]
+pub(crate) enum Difference {
     Number,
     Place,
     Written,
@@ -32,6 +33,22 @@ pub(crate) enum Verdict {
     Byte(usize),
 }
 
+impl Display for Difference {
+    fn fmt<W: fmt::Write>(&self, f: &mut fmt::Formatter<W>) -> fmt::Result {
+        match *self {
+            Difference::Number => write!(f, "number"),
+            Difference::Place => write!(f, "place"),
+            Difference::Written => write!(f, "count of bytes written"),
+            Difference::Commands => write!(f, "count of command words"),
+            Difference::Masks => write!(f, "count of mask bytes"),
+            Difference::Scale => write!(f, "scale"),
+            Difference::Params => write!(f, "one of the parameters"),
+            Difference::Word(at) => write!(f, "word {at}"),
+            Difference::Byte(at) => write!(f, "byte {at}"),
+        }
+    }
+}
+
 // Writes a script.
 pub(crate) fn judged_writing(
     head: &[u8],
@@ -40,7 +57,7 @@ pub(crate) fn judged_writing(
     masks: &[u8],
     stored: &[u8],
     script: &mut [u8],
-) -> Verdict
+) -> Option<Difference>
     requires { (36 ≤ length head.now) × (length script.old ≤ length stored.now) }
     ensures { result ≡ write_verdict head.now stored.now
         (write_of
@@ -55,25 +72,30 @@ pub(crate) fn judged_writing(
 }
 
 // What a script was written as.
-fn compared_writing(head: &[u8], stored: &[u8], answer: WriteAnswer, script: &[u8]) -> Verdict
+fn compared_writing(
+    head: &[u8],
+    stored: &[u8],
+    answer: WriteAnswer,
+    script: &[u8],
+) -> Option<Difference>
     requires { (36 ≤ length head.now) × (length script.now ≤ length stored.now) }
     ensures { result ≡
         write_verdict head.now stored.now (writing answer script.now) }
 {
-    if answer.code() as usize != natural(head, write_row::NUMBER) {
-        return Verdict::Number;
+    if writer::code(answer) as usize != natural(head, write_row::NUMBER) {
+        return Some(Difference::Number);
     }
-    if answer.place() != natural(head, write_row::PLACE) {
-        return Verdict::Place;
+    if writer::place(answer) != natural(head, write_row::PLACE) {
+        return Some(Difference::Place);
     }
-    if answer.written() != natural(head, write_row::WRITTEN) {
-        return Verdict::Written;
+    if writer::written(answer) != natural(head, write_row::WRITTEN) {
+        return Some(Difference::Written);
     }
     let first = first_byte(script, stored);
     if first < script.len() {
-        return Verdict::Byte(first);
+        return Some(Difference::Byte(first));
     }
-    Verdict::Same
+    None
 }
 
 // Reads a script back.
@@ -85,7 +107,7 @@ pub(crate) fn judged_reading(
     bytes: &[u8],
     commands: &mut [i32],
     masks: &mut [u8],
-) -> Verdict
+) -> Option<Difference>
     requires { (36 ≤ length head.now) ×
         ((4 * length commands.old ≤ length words.now) × (length masks.old ≤ length bytes.now)) }
     ensures { result ≡
@@ -110,39 +132,38 @@ fn compared_reading(
     said: ReadBack,
     commands: &[i32],
     masks: &[u8],
-) -> Verdict
+) -> Option<Difference>
     requires { (36 ≤ length head.now) ×
         ((4 * length commands.now ≤ length words.now) × (length masks.now ≤ length bytes.now)) }
     ensures { result ≡
         read_verdict head.now params.now words.now bytes.now
         (reading said commands.now masks.now) }
 {
-    let answer = said.answer;
-    if answer.code() as usize != natural(head, read_row::NUMBER) {
-        return Verdict::Number;
+    if words::code(said.answer) as usize != natural(head, read_row::NUMBER) {
+        return Some(Difference::Number);
     }
-    if answer.place() != natural(head, read_row::PLACE) {
-        return Verdict::Place;
+    if words::place(said.answer) != natural(head, read_row::PLACE) {
+        return Some(Difference::Place);
     }
     if said.commands != natural(head, read_row::COMMANDS) {
-        return Verdict::Commands;
+        return Some(Difference::Commands);
     }
     if said.masks != natural(head, read_row::MASKS) {
-        return Verdict::Masks;
+        return Some(Difference::Masks);
     }
-    if !said.scale.same(number(head, read_row::SCALE)) {
-        return Verdict::Scale;
+    if said.scale != number(head, read_row::SCALE) {
+        return Some(Difference::Scale);
     }
     if !same_params(said.params, params_from(params)) {
-        return Verdict::Params;
+        return Some(Difference::Params);
     }
     let word = first_word(commands, words);
     if word < commands.len() {
-        return Verdict::Word(word);
+        return Some(Difference::Word(word));
     }
     let byte = first_byte(masks, bytes);
     if byte < masks.len() {
-        return Verdict::Byte(byte);
+        return Some(Difference::Byte(byte));
     }
-    Verdict::Same
+    None
 }

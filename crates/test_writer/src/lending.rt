@@ -3,7 +3,6 @@ ghost use Rattle.std.specs.Prelude.{◌≡◌, length};
 ghost use Rattle.test_writer.specs.Lending.{filled, lent_byte, lent_word};
 
 use fixed::signed;
-use std::num::{wrapping_add_u8, wrapping_add_u32};
 
 // Each byte is so much more than the one before it; a word likewise, and the first is so many times
 // the fill.
@@ -17,9 +16,9 @@ pub(crate) fn lend_bytes(out: &mut [u8], fill: u8)
     ensures { out.new ≡ filled (lent_byte fill) (length out.old) }
 {
     let mut byte = fill;
-    for i in 0..out.len() {
-        out[i] = byte;
-        byte = wrapping_add_u8(byte, BYTE_STEP);
+    for place in out.iter_mut() {
+        *place = byte;
+        byte = byte.wrapping_add(BYTE_STEP);
     }
 }
 
@@ -27,8 +26,8 @@ pub(crate) fn lend_words(out: &mut [i32], fill: u8)
     ensures { out.new ≡ filled (lent_word fill) (length out.old) }
 {
     let mut bits = fill as u32 * WORD_FACTOR;
-    for i in 0..out.len() {
-        out[i] = signed(bits);
-        bits = wrapping_add_u32(bits, WORD_STEP);
+    for place in out.iter_mut() {
+        *place = signed(bits);
+        bits = bits.wrapping_add(WORD_STEP);
     }
 }

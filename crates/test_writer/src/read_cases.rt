@@ -2,8 +2,8 @@
 ghost use Rattle.std.specs.Prelude.{◌≡◌, ◌+◌, ◌*◌, ◌≤◌, length};
 ghost use Rattle.header.specs.Header.{padded};
 
-use crate::cases::{HELD_BYTES, HELD_WORDS, Seen};
-use crate::judging::{Verdict, judged_reading};
+use crate::cases::{HELD_BYTES, HELD_WORDS};
+use crate::judging::{Difference, judged_reading};
 use crate::read_row;
 use std::io;
 use std::io::Read;
@@ -13,7 +13,10 @@ use words::{natural, read_words};
 // The bytes of all parts of a case.
 const HELD_CASE: usize = 4 * (read_row::PARAMS + HELD_WORDS) + 2 * HELD_BYTES;
 
-pub(crate) fn read_case<R: Read>(file: &mut R, head: &[u8]) -> io::Result<Seen>
+pub(crate) fn read_case<R: Read>(
+    file: &mut R,
+    head: &[u8],
+) -> io::Result<Option<Option<Difference>>>
     requires { 36 ≤ length head.now }
 {
     let mut case = [0u8; HELD_CASE];
@@ -21,7 +24,11 @@ pub(crate) fn read_case<R: Read>(file: &mut R, head: &[u8]) -> io::Result<Seen>
 }
 
 // Reads as many bytes as the case has.
-fn read_sized<R: Read>(file: &mut R, head: &[u8], case: &mut [u8]) -> io::Result<Seen>
+fn read_sized<R: Read>(
+    file: &mut R,
+    head: &[u8],
+    case: &mut [u8],
+) -> io::Result<Option<Option<Difference>>>
     requires { 36 ≤ length head.now }
 {
     let size = natural(head, read_row::SCRIPT);
@@ -29,16 +36,16 @@ fn read_sized<R: Read>(file: &mut R, head: &[u8], case: &mut [u8]) -> io::Result
     let bytes = natural(head, read_row::ROOM_BYTES);
     let end = 4 * (read_row::PARAMS + (size + 3) / 4 + words + (bytes + 3) / 4);
     if HELD_WORDS < words || HELD_BYTES < bytes || case.len() < end {
-        return Ok(Seen::Cut);
+        return Ok(None);
     }
     if !read_bytes(file, &mut case[..end])? {
-        return Ok(Seen::Cut);
+        return Ok(None);
     }
-    Ok(Seen::Run(run_case(head, case, size, words, bytes)))
+    Ok(Some(run_case(head, case, size, words, bytes)))
 }
 
 // Lends as many words and bytes as the case says.
-fn run_case(head: &[u8], case: &[u8], size: usize, words: usize, bytes: usize) -> Verdict
+fn run_case(head: &[u8], case: &[u8], size: usize, words: usize, bytes: usize) -> Option<Difference>
     requires { (36 ≤ length head.now) × ((words ≤ 16400) × ((bytes ≤ 65600) ×
         (4 * (64 + padded size + words + padded bytes) ≤ length case.now))) }
 {
@@ -64,7 +71,7 @@ fn run_parts(
     params: &mut [i32],
     commands: &mut [i32],
     masks: &mut [u8],
-) -> Verdict
+) -> Option<Difference>
     requires { (36 ≤ length head.now) × ((length params.old ≡ 64) ×
         (4 * (64 + padded size + length commands.old + padded (length masks.old)) ≤ length case.now)) }
 {

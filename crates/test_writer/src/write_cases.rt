@@ -2,8 +2,8 @@
 ghost use Rattle.std.specs.Prelude.{◌+◌, ◌*◌, ◌≤◌, length};
 ghost use Rattle.header.specs.Header.{padded};
 
-use crate::cases::{HELD_BYTES, HELD_WORDS, Seen};
-use crate::judging::{Verdict, judged_writing};
+use crate::cases::{HELD_BYTES, HELD_WORDS};
+use crate::judging::{Difference, judged_writing};
 use crate::write_row;
 use std::io;
 use std::io::Read;
@@ -16,7 +16,10 @@ const HELD_PARAMS: usize = 72;
 // The bytes of all parts of a case.
 const HELD_CASE: usize = 4 * (HELD_PARAMS + HELD_WORDS) + 2 * HELD_BYTES;
 
-pub(crate) fn write_case<R: Read>(file: &mut R, head: &[u8]) -> io::Result<Seen>
+pub(crate) fn write_case<R: Read>(
+    file: &mut R,
+    head: &[u8],
+) -> io::Result<Option<Option<Difference>>>
     requires { 36 ≤ length head.now }
 {
     let mut case = [0u8; HELD_CASE];
@@ -24,7 +27,11 @@ pub(crate) fn write_case<R: Read>(file: &mut R, head: &[u8]) -> io::Result<Seen>
 }
 
 // Reads as many bytes as the case has.
-fn read_sized<R: Read>(file: &mut R, head: &[u8], case: &mut [u8]) -> io::Result<Seen>
+fn read_sized<R: Read>(
+    file: &mut R,
+    head: &[u8],
+    case: &mut [u8],
+) -> io::Result<Option<Option<Difference>>>
     requires { 36 ≤ length head.now }
 {
     let words = natural(head, write_row::PARAMS);
@@ -33,12 +40,12 @@ fn read_sized<R: Read>(file: &mut R, head: &[u8], case: &mut [u8]) -> io::Result
     let room = natural(head, write_row::ROOM);
     let end = 4 * (words + count + (bytes + 3) / 4 + (room + 3) / 4);
     if HELD_PARAMS < words || HELD_WORDS < count || HELD_BYTES < room || case.len() < end {
-        return Ok(Seen::Cut);
+        return Ok(None);
     }
     if !read_bytes(file, &mut case[..end])? {
-        return Ok(Seen::Cut);
+        return Ok(None);
     }
-    Ok(Seen::Run(run_case(head, case, words, count, bytes, room)))
+    Ok(Some(run_case(head, case, words, count, bytes, room)))
 }
 
 // Lends as many words and bytes as the case says.
@@ -49,7 +56,7 @@ fn run_case(
     count: usize,
     bytes: usize,
     room: usize,
-) -> Verdict
+) -> Option<Difference>
     requires { (36 ≤ length head.now) × ((words ≤ 72) × ((count ≤ 16400) × ((room ≤ 65600) ×
         (4 * (words + count + padded bytes + padded room) ≤ length case.now)))) }
 {
@@ -75,7 +82,7 @@ fn run_parts(
     params: &mut [i32],
     commands: &mut [i32],
     script: &mut [u8],
-) -> Verdict
+) -> Option<Difference>
     requires { (36 ≤ length head.now) ×
         (4 * (length params.old + length commands.old + padded bytes + padded (length script.old)) ≤
         length case.now) }

@@ -5,10 +5,10 @@ use Prim.Native.Nat.{ℕ, ◌*◌, ◌≤◌}
 use native.Mathlib.Omega.{arith}
 use lib.IntN.{ℤ}
 use lib.ListN.{length, length-append}
+use Rattle.std.specs.Prelude.{Ok}
 use Rattle.zones.specs.declared.state.HintState.{HintState}
 use Rattle.hints.specs.declared.drawing.Drawing.{Drawing}
 use Rattle.hints.specs.Calls.{words_for, next_of, new_drawing}
-use Rattle.words.specs.declared.answer.Answer.TheVariants.{Ok}
 use Rattle.words.specs.Words.{raw_at, number_at}
 use Rattle.run.specs.Room.{words_along}
 use Rattle.run.specs.Run.{Asked, steps_of}
@@ -31,10 +31,10 @@ along-short st d (c ∷ cs) =
     )
 
 -- a script that passes all tests is answered OK in such a room
-pub ample : (s : List ℕ) (out : List ℤ) → Checked s → Ample s out → (script_of s out).answer ≡ Ok
+pub ample : (s : List ℕ) (out : List ℤ) → Checked s → Ample s out → (script_of s out).answer ≡ Ok tt
 unfolding steps_in
 ample s out c room =
-    gives s out Ok (record {
+    gives s out (Ok tt) (record {
       checked = c;
       room =
           omega (

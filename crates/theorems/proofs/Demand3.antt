@@ -9,6 +9,7 @@ use lib.Dec.{leb}
 use lib.IntN.{ℤ, pos}
 use lib.ListN.{length}
 use borrow.Author.Tests.{le-leb}
+use Rattle.std.specs.Prelude.{Ok}
 use Rattle.fixed.specs.Fixed.{from_bits, less_f}
 use Rattle.zones.specs.declared.state.HintState.{HintState}
 use Rattle.zones.specs.State.{counts_fit}
@@ -16,13 +17,11 @@ use Rattle.build.proofs.Sound.{built-good}
 use Rattle.hints.specs.Hints.{with_initial, ready_of}
 use Rattle.hints.specs.declared.drawing.Drawing.{Drawing}
 use Rattle.drawing.specs.declared.calls.After.{After}
-use Rattle.drawing.specs.declared.opening.Opening.TheVariants.{Ok as Opens}
 use Rattle.drawing.specs.declared.opening.Opened.{Opened}
 use Rattle.hints.specs.Calls.{Call, next_of, words_for}
 use Rattle.drawing.specs.After.{Called}
 use Rattle.hints.specs.Calls.{new_drawing}
 use Rattle.drawing.specs.Open.{open_of}
-use Rattle.words.specs.declared.answer.Answer.TheVariants.{Ok}
 use Rattle.words.specs.Words.{raw_at, number_at}
 use Rattle.words.proofs.Rows.{none-holds}
 use Rattle.header.specs.Params.{blues_at, param_rows, params_of, WholeParams}
@@ -130,11 +129,11 @@ fit s w = rw (le-leb _ 7 w.blues, le-leb _ 7 w.others, le-leb _ 7 w.family, le-l
 module _ (s : List ℕ) (k : Checked s) where
   scale-fine : less_f (number_at (raw_at s) 1) (from_bits (pos 1)) ≡ false
   unfolding param_rows
-  scale-fine = none-holds Ok (param_rows (raw_at s)) (params-refusing s) (passed s k).params 0
+  scale-fine = none-holds (Ok tt) (param_rows (raw_at s)) (params-refusing s) (passed s k).params 0
 
   -- a script that passes all tests starts with what opening gives
   pub opens : open_of (params_of (raw_at s)) (number_at (raw_at s) 1) ≡
-      record { answer = Opens; state = zones_of s; drawing = new_drawing (number_at (raw_at s) 1) }
+      record { answer = Ok tt; state = zones_of s; drawing = new_drawing (number_at (raw_at s) 1) }
   unfolding open_of zones_of
   opens = rw (scale-fine, fit s (passed s k).whole)
 

@@ -5,7 +5,8 @@ use mathlib.Core.Bool.{Bool, true, false}
 use mathlib.Core.List.{List, [], ◌∷◌, ◌++◌}
 use mathlib.Core.Logic.{◌⊎◌, inl, inr}
 use Prim.Native.Nat.{ℕ}
-use Rattle.words.specs.declared.answer.Answer.TheVariants.{Ok, BadCommand, BadMask}
+use Rattle.std.specs.Prelude.{Ok, Err}
+use Rattle.words.specs.declared.answer.Refusal.TheVariants.{BadCommand, BadMask}
 use Rattle.words.specs.Rows.{first_or}
 use Rattle.words.specs.Answers.{first_of}
 use Rattle.words.proofs.Rows.{onward}
@@ -35,19 +36,19 @@ module _ (bytes : ℕ) where
 
   -- behind commands without a fault
   module _ (before : List CommandAt) (at : CommandAt) (after : List CommandAt)
-      (fine : first_of (command_rows bytes before) ≡ Ok) where
+      (fine : first_of (command_rows bytes before) ≡ Ok tt) where
     behind : first_of (command_rows bytes (before ++ at ∷ after)) ≡ first_of (command_rows bytes (at ∷ after))
     behind =
         ap first_of (rows_append before (at ∷ after)) ∙
-        onward Ok (command_rows bytes before) (command_rows bytes (at ∷ after)) (rows-refusing bytes before) fine
+        onward (Ok tt) (command_rows bytes before) (command_rows bytes (at ∷ after)) (rows-refusing bytes before) fine
 
     pub command-answer : is_bad at.command ≡ true →
-        first_of (command_rows bytes (before ++ at ∷ after)) ≡ BadCommand at.place
+        first_of (command_rows bytes (before ++ at ∷ after)) ≡ Err (BadCommand at.place)
     unfolding command_rows first_or
     command-answer e = behind ∙ rw e
 
     pub mask-answer : has_bad_mask bytes at.command ≡ true →
-        first_of (command_rows bytes (before ++ at ∷ after)) ≡ BadMask at.place
+        first_of (command_rows bytes (before ++ at ∷ after)) ≡ Err (BadMask at.place)
     unfolding command_rows first_or
     mask-answer e = behind ∙ rw (one-fault at.command e, e)
 
@@ -57,18 +58,18 @@ module _ (bytes : ℕ) where
     pub at : CommandAt
     pub after : List CommandAt
     pub split : cs ≡ before ++ at ∷ after
-    pub fine : first_of (command_rows bytes before) ≡ Ok
+    pub fine : first_of (command_rows bytes before) ≡ Ok tt
     pub holds : (is_bad at.command ≡ true) ⊎ (has_bad_mask bytes at.command ≡ true)
 
   -- no command has one, or there is a first
-  pub fine-or-fault : (cs : List CommandAt) → (first_of (command_rows bytes cs) ≡ Ok) ⊎ Fault cs
+  pub fine-or-fault : (cs : List CommandAt) → (first_of (command_rows bytes cs) ≡ Ok tt) ⊎ Fault cs
   unfolding command_rows first_or
   fine-or-fault [] = inl refl
   fine-or-fault (c ∷ cs) = by (is_bad c.command) (has_bad_mask bytes c.command) refl refl (fine-or-fault cs)
     where
       by : (u v : Bool) → is_bad c.command ≡ u → has_bad_mask bytes c.command ≡ v →
-          (first_of (command_rows bytes cs) ≡ Ok) ⊎ Fault cs →
-          (first_of (command_rows bytes (c ∷ cs)) ≡ Ok) ⊎ Fault (c ∷ cs)
+          (first_of (command_rows bytes cs) ≡ Ok tt) ⊎ Fault cs →
+          (first_of (command_rows bytes (c ∷ cs)) ≡ Ok tt) ⊎ Fault (c ∷ cs)
       by true v e f w = inr (record { before = []; at = c; after = cs; split = refl; fine = refl; holds = inl e })
       by false true e f w = inr (record { before = []; at = c; after = cs; split = refl; fine = refl; holds = inr f })
       by false false e f (inl h) = inl (rw (e, f) h)

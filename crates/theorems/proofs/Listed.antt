@@ -21,10 +21,9 @@ use Rattle.hintmap.proofs.Words.{stems-ascend, bottom-top, top-bottom, present}
 use Rattle.hints.specs.declared.drawing.Drawing.{Drawing}
 use Rattle.words.specs.Bytes.{over}
 use Rattle.listing.specs.declared.record.EdgeRecord.{EdgeRecord}
-use Rattle.listing.specs.declared.answer.ListAnswer.{ListAnswer}
-use Rattle.listing.specs.declared.answer.ListAnswer.TheVariants.{Listed, ListRoom}
+use Rattle.std.specs.Prelude.{Ok, Err}
 use Rattle.listing.specs.Records.{record_of, edge_records, records_of, count_of, summary_of}
-use Rattle.listing.specs.Listing.{list_summary, list_answer, records_in, Lists}
+use Rattle.listing.specs.Listing.{ListAnswer, list_summary, list_answer, records_in, Lists}
 use Rattle.script.specs.Script.{calls_in, map_at}
 use Rattle.theorems.specs.Demand1.{Checked}
 use Rattle.theorems.specs.Reached.{Reached}
@@ -132,7 +131,7 @@ unfolding list_answer records_in over summary_of
 list-front m g list = go (leb (length (records_of m)) (length list))
   where
     go : (b : Bool) →
-        InOrder (take (list_summary (cond b (Listed (summary_of (records_of m))) ListRoom)).edges
+        InOrder (take (list_summary (cond b (Ok (summary_of (records_of m))) (Err (record {})))).edges
         (over (cond b (records_of m) []) list))
     go true = subst InOrder (sym (take_at (records_of m) _ (length (records_of m)) refl)) (in_order m g)
     go false = nothing

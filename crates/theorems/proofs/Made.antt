@@ -3,6 +3,7 @@
 use mathlib.Core.Path.{◌≡◌, refl, sym, ap, ◌∙◌}
 use mathlib.Core.Bool.{Bool, true, false, true≢false, ◌&&◌, not}
 use lib.Dec.{ltb}
+use Rattle.std.proofs.Common.{Option, Some, None}
 use Rattle.fixed.specs.declared.Fixed.{Fixed}
 use Rattle.stems.specs.declared.mask.HintMask.{HintMask}
 use Rattle.stems.specs.Mask.{same_mask}
@@ -11,9 +12,8 @@ use Rattle.hintmap.specs.declared.map.HintMap.{HintMap}
 use Rattle.build.proofs.Sound.{initial-valid}
 use Rattle.pen.specs.declared.strokes.Point.{Point}
 use Rattle.pen.specs.declared.strokes.Pen.{Pen}
-use Rattle.pen.specs.declared.strokes.Waiting.{Waiting}
-use Rattle.pen.specs.declared.strokes.Waiting.TheVariants.{Line as Waits, Absent as NoLine}
-use Rattle.pen.specs.Strokes.{move_of, line_of, curve_of, finish_of}
+use Rattle.pen.specs.declared.strokes.WaitingLine.{WaitingLine}
+use Rattle.pen.specs.Strokes.{waiting_line, move_of, line_of, curve_of, finish_of}
 use Rattle.hints.specs.declared.hints.Hints.{Hints}
 use Rattle.pen.specs.declared.strokes.Path.{Path}
 use Rattle.pen.specs.declared.strokes.Path.TheVariants.{Move, Line, Curve, Finish}
@@ -30,18 +30,23 @@ use Rattle.theorems.specs.Reached.{InitialMade, MapMade, carried_point, Pointed,
 pub record Made (Was : Drawing → Type 0) (st : HintState) (d : Drawing) : Type 0 where
   pub initial : d.hints.initial.is_valid ≡ true → InitialMade Was st d
   pub map : d.hints.map.is_valid ≡ true → MapMade Was st d
-  pub waiting : (at device : Point) → d.pen.waiting ≡ Waits at device → LineMade Was st at device
+  pub waiting : (at device : Point) → d.pen.waiting ≡ waiting_line at device → LineMade Was st at device
 
 -- what is invalid is not valid
 pub never : {A : Type 0} → false ≡ true → A
 never e = absurd (true≢false (sym e))
 
-no_line : {A : Type 0} (at device : Point) → NoLine ≡ Waits at device → A
+no_line : {A : Type 0} (at device : Point) → None ≡ waiting_line at device → A
 no_line at device e = absurd (true≢false (ap is_absent e))
   where
-    is_absent : Waiting → Bool
-    is_absent NoLine = true
-    is_absent (Waits p q) = false
+    is_absent : Option WaitingLine → Bool
+    is_absent None = true
+    is_absent (Some line) = false
+
+-- the line that waits, or one from a point to itself
+abbrev line_in : Point → Option WaitingLine → WaitingLine
+line_in p None = record { at = p; device = p }
+line_in p (Some line) = line
 
 -- a new drawing has none
 pub made-new : (Was : Drawing → Type 0) (st : HintState) (s : Fixed) → Made Was st (new_drawing s)
@@ -101,7 +106,7 @@ module _ (st : HintState) {Was Will : Drawing → Type 0} (d : Drawing) (kept : 
       ap (λ (b : Bool). (initial_by b st d.hints).initial)
       (ap (λ (x : HintMap). x.is_valid) m.initial ∙ with-initial-valid st m.then.hints)
 
-  line-left : (at device : Point) → d.pen.waiting ≡ Waits at device → LineMade Will st at device
+  line-left : (at device : Point) → d.pen.waiting ≡ waiting_line at device → LineMade Will st at device
   line-left at device e =
       let m = g.waiting at device e in
       record { then = m.then; was = kept m.then m.was; carried = m.carried }
@@ -160,7 +165,8 @@ module _ (st : HintState) {Was Will : Drawing → Type 0} (d : Drawing) (kept : 
         }
 
   -- a call with a point makes the current map, if it is invalid
-  module _ (pen : Pen) (waits : (at device : Point) → pen.waiting ≡ Waits at device → LineMade Will st at device) where
+  module _ (pen : Pen) (waits : (at device : Point) → pen.waiting ≡ waiting_line at device →
+      LineMade Will st at device) where
     abbrev drawn_with : Hints → Drawing
     drawn_with h = record { hints = h; pen = pen }
 
@@ -202,12 +208,12 @@ module _ (st : HintState) {Was Will : Drawing → Type 0} (d : Drawing) (kept : 
 
   -- a line that waits has its point carried by the current map; no other stroke leaves one
   path-waits : (p : Path) (at device : Point) →
-      (stroke_of st d.hints d.pen (draw p)).pen.waiting ≡ Waits at device → LineMade Will st at device
+      (stroke_of st d.hints d.pen (draw p)).pen.waiting ≡ waiting_line at device → LineMade Will st at device
   unfolding move_of line_of curve_of finish_of device_point
   path-waits (Move p) at device e = no_line at device e
   path-waits (Line p) at device e =
-      let a : p ≡ at = cc in
-      let b : carried_point st d p ≡ device = cc in
+      let a : p ≡ at = ap (λ (w : Option WaitingLine). (line_in p w).at) e in
+      let b : carried_point st d p ≡ device = ap (λ (w : Option WaitingLine). (line_in p w).device) e in
       record { then = d; was = there; carried = sym b ∙ ap (carried_point st d) a }
   path-waits (Curve p q r) at device e = no_line at device e
   path-waits Finish at device e = no_line at device e

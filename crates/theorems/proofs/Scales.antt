@@ -18,7 +18,7 @@ use Rattle.stems.specs.Edge.{no_hint, is_pair}
 use Rattle.hintmap.specs.declared.map.HintMap.{HintMap}
 use Rattle.hintmap.specs.Map.{view}
 use Rattle.hintmap.proofs.WholeStems.{Good}
-use Rattle.adjust.specs.declared.Neighbour.{Neighbour}
+use Rattle.std.proofs.Common.{Option}
 use Rattle.adjust.specs.Adjust.{edge_at, above_of, below_of, moved_hint, settle_by, settle_of, at_scale, slope}
 use Rattle.adjust.specs.Adjust.{rescaled_by}
 use Rattle.adjust.specs.Adjust.{rescaled_hint, with_edge}
@@ -170,7 +170,7 @@ put_two n i low high l =
     rw (z, get_or-set_same, set-set)
 
 -- settling sets no scale
-settle-scale : (b : Bool) (below : Neighbour) (low high : Hint) (above : Neighbour) →
+settle-scale : (b : Bool) (below : Option Hint) (low high : Hint) (above : Option Hint) →
     ((settle_by b below low high above).low.scale ≡ low.scale) ×
     ((settle_by b below low high above).high.scale ≡ high.scale)
 unfolding moved_hint
@@ -178,7 +178,7 @@ settle-scale true below low high above = (refl, refl)
 settle-scale false below low high above = (refl, refl)
 
 -- and the one edge of a ghost stays one
-settle-one : (b : Bool) (below : Neighbour) (e : Hint) (above : Neighbour) →
+settle-one : (b : Bool) (below : Option Hint) (e : Hint) (above : Option Hint) →
     (settle_by b below e e above).low ≡ (settle_by b below e e above).high
 settle-one true below e above = refl
 settle-one false below e above = refl

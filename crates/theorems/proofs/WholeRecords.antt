@@ -7,13 +7,12 @@ use Prim.Native.Nat.{ℕ, suc}
 use native.Mathlib.Omega.{arith}
 use lib.IntN.{ℤ, pos}
 use lib.ListN.{length}
+use Rattle.std.proofs.Common.{Option, None, Some as There}
 use Rattle.zones.specs.declared.state.HintState.{HintState}
 use Rattle.hintmap.specs.declared.map.HintMap.{HintMap}
 use Rattle.fixed.specs.declared.Fixed.{Fixed}
-use Rattle.pen.specs.declared.strokes.Start.{Start}
-use Rattle.pen.specs.declared.strokes.Start.TheVariants.{At, Absent as NoStart}
-use Rattle.pen.specs.declared.strokes.Waiting.{Waiting}
-use Rattle.pen.specs.declared.strokes.Waiting.TheVariants.{Line as Waits, Absent as NoLine}
+use Rattle.pen.specs.declared.strokes.Point.{Point}
+use Rattle.pen.specs.declared.strokes.WaitingLine.{WaitingLine}
 use Rattle.pen.specs.declared.strokes.Pen.{Pen}
 use Rattle.pen.specs.Strokes.{same_point, point_words, close_by, closing_words, waiting_words, flush_words, move_of}
 use Rattle.pen.specs.Strokes.{line_of}
@@ -65,18 +64,18 @@ single : {r : List ℤ} → Record r → Some (r ++ [])
 single r = (1, first r none)
 
 -- ---- the words of a stroke
-close-whole : (s : Start) (w : Waiting) → Some (close_by s w)
-close-whole NoStart w = (0, none)
-close-whole (At from) NoLine = single closes
-close-whole (At from) (Waits at device) = go (same_point at from)
+close-whole : (s : Option Point) (w : Option WaitingLine) → Some (close_by s w)
+close-whole None w = (0, none)
+close-whole (There from) None = single closes
+close-whole (There from) (There wait) = go (same_point wait.at from)
   where
-    go : (b : Bool) → Some (cond b (pos 4 ∷ []) (pos 2 ∷ point_words device ++ pos 4 ∷ []))
+    go : (b : Bool) → Some (cond b (pos 4 ∷ []) (pos 2 ∷ point_words wait.device ++ pos 4 ∷ []))
     go true = single closes
-    go false = both (single (line device.x.bits device.y.bits)) (single closes)
+    go false = both (single (line wait.device.x.bits wait.device.y.bits)) (single closes)
 
-wait-whole : (w : Waiting) → Some (waiting_words w)
-wait-whole NoLine = (0, none)
-wait-whole (Waits at device) = single (line device.x.bits device.y.bits)
+wait-whole : (w : Option WaitingLine) → Some (waiting_words w)
+wait-whole None = (0, none)
+wait-whole (There wait) = single (line wait.device.x.bits wait.device.y.bits)
 
 stroke-whole : (m : HintMap) (s : Fixed) (pen : Pen) (p : Path) → Some (stroke_by m s pen p).words
 unfolding move_of line_of curve_of finish_of closing_words flush_words

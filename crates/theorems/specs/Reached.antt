@@ -13,8 +13,7 @@ use Rattle.hintmap.specs.declared.map.HintMap.{HintMap}
 use Rattle.hintmap.specs.Map.{view, line, map_of}
 use Rattle.build.specs.Build.{initial_of, built_of}
 use Rattle.pen.specs.declared.strokes.Point.{Point}
-use Rattle.pen.specs.declared.strokes.Waiting.TheVariants.{Line as Waits}
-use Rattle.pen.specs.Strokes.{point_words, closing_words, flush_words}
+use Rattle.pen.specs.Strokes.{waiting_line, point_words, closing_words, flush_words}
 use Rattle.pen.specs.declared.strokes.Path.TheVariants.{Move, Line, Curve}
 use Rattle.hints.specs.Hints.{with_initial, built_from, ready_of}
 use Rattle.hints.specs.declared.drawing.Drawing.{Drawing}
@@ -142,7 +141,7 @@ pub record Pointed (st : HintState) (d : Drawing) : Type 0 where
   pub move : (p : Point) → words_for st d (draw (Move p)) ≡
       closing_words d.pen ++ pos 1 ∷ point_words (carried_point st d p)
   pub line : (p : Point) → words_for st d (draw (Line p)) ≡ flush_words d.pen
-  pub waits : (p : Point) → (next_of st d (draw (Line p))).pen.waiting ≡ Waits p (carried_point st d p)
+  pub waits : (p : Point) → (next_of st d (draw (Line p))).pen.waiting ≡ waiting_line p (carried_point st d p)
   pub curve : (p q r : Point) →
       words_for st d (draw (Curve p q r)) ≡
       flush_words d.pen ++ (pos 3 ∷ point_words (carried_point st d p) ++ point_words (carried_point st d q) ++
@@ -168,4 +167,4 @@ pub record Demand3 (Was : Drawing → Type 0) (st : HintState) (d : Drawing) : T
   pub thrown : (m : HintMask) → Sound (counter_map st d m)
   -- points come by the current map
   pub pointed : Pointed st d
-  pub waiting : (at device : Point) → d.pen.waiting ≡ Waits at device → LineMade Was st at device
+  pub waiting : (at device : Point) → d.pen.waiting ≡ waiting_line at device → LineMade Was st at device

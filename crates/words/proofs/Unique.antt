@@ -6,9 +6,10 @@ use borrow.Fn.Kinds.{ended_of}
 use borrow.Fn.World.{ArgsD, ResD}
 use contract.Lifetimes.{Lfts}
 use denote.Triple.Clauses.{AtExit}
-use Rattle.words.specs.declared.answer.Answer.{Answer}
-use Rattle.words.proofs.answer.Answer.code.Reads as code_Reads
-use Rattle.words.proofs.answer.Answer.place.Reads as place-reads
+use Rattle.words.proofs.answer.Refusal.code.Reads as refusal_code-reads
+use Rattle.words.proofs.answer.Refusal.place.Reads as refusal_place-reads
+use Rattle.words.proofs.answer.code.Reads as code_Reads
+use Rattle.words.proofs.answer.place.Reads as place-reads
 use Rattle.words.specs.contracts.read.natural as natural
 use Rattle.words.proofs.read.natural.Kinds as natural-kinds
 use Rattle.words.proofs.read.natural.Reads as natural-reads
@@ -33,6 +34,8 @@ use Rattle.words.proofs.storing.store_words.Reads as words-reads
 use Rattle.words.specs.contracts.read.number as number
 use Rattle.words.proofs.read.number.Kinds as number-kinds
 use Rattle.words.proofs.read.number.Reads as number-reads
+use Rattle.words.specs.Answers.{Answer}
+use Rattle.words.specs.declared.answer.Refusal.{Refusal}
 
 module _ (κs : Lfts 0) (a : Answer) (r r' : ℕ) where
   pub code-unique : code_Reads.Post κs (a, tt) r (a, tt) → code_Reads.Post κs (a, tt) r' (a, tt) → r ≡ r'
@@ -40,6 +43,15 @@ module _ (κs : Lfts 0) (a : Answer) (r r' : ℕ) where
 
   pub place-unique : place-reads.Post κs (a, tt) r (a, tt) → place-reads.Post κs (a, tt) r' (a, tt) → r ≡ r'
   place-unique p q = p ∙ sym q
+
+module _ (κs : Lfts 0) (a : Refusal) (r r' : ℕ) where
+  pub refusal_code-unique : refusal_code-reads.Post κs (a, tt) r (a, tt) →
+      refusal_code-reads.Post κs (a, tt) r' (a, tt) → r ≡ r'
+  refusal_code-unique p q = p ∙ sym q
+
+  pub refusal_place-unique : refusal_place-reads.Post κs (a, tt) r (a, tt) →
+      refusal_place-reads.Post κs (a, tt) r' (a, tt) → r ≡ r'
+  refusal_place-unique p q = p ∙ sym q
 
 module _ (κs : Lfts 1) (a : ArgsD natural.signature κs) (r r' : ResD natural.signature κs)
     (x x' : AtExit (ended_of 1 natural-kinds.ps natural-kinds.r) κs) where

@@ -6,6 +6,6 @@ pub mod layout;
 mod read;
 mod storing;
 
-pub use answer::Answer;
+pub use answer::{Answer, Refusal, code, place};
 pub use read::{natural, number, raw, read_words, word};
 pub use storing::{copy_bytes, store, store_words};

@@ -5,23 +5,14 @@ ghost use Rattle.words.specs.Words.{raw_at, word_at, number_at, words_from};
 
 use fixed::{Fixed, signed};
 
-fn wide(byte: u8) -> u32
-    ensures { (result ≡ byte) × (result < 256) }
-{
-    byte as u32
-}
-
 // A word as a natural below 2^32.
+#[tactic(auto, unfolding(crate::specs::Words::raw_at))]
 pub fn raw(script: &[u8], i: usize) -> u32
     requires { 4 * i + 4 ≤ length script.now }
     ensures { result ≡ raw_at script.now i }
 {
     let at = 4 * i;
-    let b0 = wide(script[at]);
-    let b1 = wide(script[at + 1]);
-    let b2 = wide(script[at + 2]);
-    let b3 = wide(script[at + 3]);
-    b0 + b1 * 256 + b2 * 65536 + b3 * 16777216
+    u32::from_le_bytes([script[at], script[at + 1], script[at + 2], script[at + 3]])
 }
 
 // The same as an index, for counts, offsets and kinds.
@@ -55,7 +46,7 @@ pub fn read_words(bytes: &[u8], first: usize, words: &mut [i32])
     ensures { words.new ≡
         map signed (words_from (raw_at bytes.now) first (length words.old)) }
 {
-    for i in 0..words.len() {
-        words[i] = word(bytes, first + i);
+    for (i, lent) in words.iter_mut().enumerate() {
+        *lent = word(bytes, first + i);
     }
 }

@@ -14,8 +14,9 @@ use Rattle.fixed.proofs.Tests.{both_false}
 use Rattle.words.specs.Rows.{Row, first_or}
 use Rattle.words.specs.Bytes.{over}
 use Rattle.words.proofs.Rows.{found-else}
-use Rattle.writer.specs.declared.write_answer.WriteAnswer.{WriteAnswer}
-use Rattle.writer.specs.declared.write_answer.WriteAnswer.TheVariants.{Written, ScriptRoom}
+use Rattle.writer.specs.Refusals.{WriteAnswer}
+use Rattle.writer.specs.declared.write_answer.WriteRefusal.TheVariants.{ScriptRoom}
+use Rattle.std.proofs.Common.{Ok, Err}
 use Rattle.writer.specs.ToWrite.{Given, pieces_in, script_for}
 use Rattle.writer.specs.Refusals.{write_number, write_refuses, given_rows, piece_rows, room_row, write_rows}
 use Rattle.writer.specs.Refusals.{write_answer, buffer_by, write_of, Wrote, FineParams}
@@ -41,26 +42,26 @@ module _ (g : Given) where
       (given-refuse g.scale g.params) (pieces-refuse 0 (length g.masks) (pieces_in g.commands))
 
   -- an answer numbered 0 is that for where none holds
-  pub before-fine : write_number (first_or (Written 0) before) ≡ 0 → first_or (Written 0) before ≡ Written 0
+  pub before-fine : write_number (first_or (Ok 0) before) ≡ 0 → first_or (Ok 0) before ≡ Ok 0
   before-fine e = fine-is before all-refuse e
 
   -- and none does
-  none_before : first_or (Written 0) before ≡ Written 0 → NoneHold before
-  none_before e = none-hold (Written 0) before all-refuse (ap write_number e)
+  none_before : first_or (Ok 0) before ≡ Ok 0 → NoneHold before
+  none_before e = none-hold (Ok 0) before all-refuse (ap write_number e)
 
   -- so none of those of the pieces
-  pub fine-pieces : first_or (Written 0) before ≡ Written 0 →
-      first_or (Written 0) (piece_rows 0 (length g.masks) (pieces_in g.commands)) ≡ Written 0
-  fine-pieces e = none-answer (Written 0) _ (none-back (given_rows g.scale g.params) _ (none_before e))
+  pub fine-pieces : first_or (Ok 0) before ≡ Ok 0 →
+      first_or (Ok 0) (piece_rows 0 (length g.masks) (pieces_in g.commands)) ≡ Ok 0
+  fine-pieces e = none-answer (Ok 0) _ (none-back (given_rows g.scale g.params) _ (none_before e))
 
   -- and the counts are fine
-  pub fine-params : first_or (Written 0) before ≡ Written 0 → FineParams g.params
+  pub fine-params : first_or (Ok 0) before ≡ Ok 0 → FineParams g.params
   fine-params e = counts-fine g.scale g.params (none-front (given_rows g.scale g.params) _ (none_before e))
 
   -- ---- the answer
   module _ (room : ℕ) where
     abbrev done : WriteAnswer
-    done = Written (length (script_for g))
+    done = Ok (length (script_for g))
 
     -- the test of the room
     abbrev last : List (Row WriteAnswer)
@@ -75,14 +76,14 @@ module _ (g : Given) where
         (piece_rows 0 (length g.masks) (pieces_in g.commands)) last))
 
     -- a refusal before it stands
-    pub refused-before : 0 < write_number (first_or (Written 0) before) →
-        write_answer g room ≡ first_or (Written 0) before
+    pub refused-before : 0 < write_number (first_or (Ok 0) before) →
+        write_answer g room ≡ first_or (Ok 0) before
     refused-before h =
-        in_two ∙ found-else (Written 0) done before last (not-fine (first_or (Written 0) before) h)
+        in_two ∙ found-else (Ok 0) done before last (not-fine (first_or (Ok 0) before) h)
 
     -- and after that the room decides
-    pub by-room : first_or (Written 0) before ≡ Written 0 →
-        write_answer g room ≡ cond (room_row (length (script_for g)) room).fault ScriptRoom done
+    pub by-room : first_or (Ok 0) before ≡ Ok 0 →
+        write_answer g room ≡ cond (room_row (length (script_for g)) room).fault (Err ScriptRoom) done
     unfolding first_or
     by-room e = in_two ∙ none-onward done before last (none_before e)
 
@@ -130,8 +131,8 @@ module _ (g : Given) (lent : List ℕ) where
       record { answer = e; memory = sym (ap (λ (b : Bool). buffer_by (not b) (script_for g) lent) n) }
 
   -- and else the script is written over it
-  pub wrote-script : (n : ℕ) (left : List ℕ) → Written n ≡ write_answer g (length lent) →
-      left ≡ over (script_for g) lent → Wrote (write_of g lent) (Written n) left
+  pub wrote-script : (n : ℕ) (left : List ℕ) → Ok n ≡ write_answer g (length lent) →
+      left ≡ over (script_for g) lent → Wrote (write_of g lent) (Ok n) left
   unfolding write_of
   wrote-script n left e m =
       let z : eqb (write_number (write_answer g (length lent))) 0 ≡ true =

@@ -15,15 +15,18 @@ use Rattle.words.specs.Words.{negative}
 use Rattle.words.specs.Rows.{Row, first_or}
 use Rattle.words.proofs.Rows.{Refusing}
 use Rattle.header.specs.Header.{outside}
-use Rattle.writer.specs.declared.write_answer.WriteAnswer.{WriteAnswer}
-use Rattle.writer.specs.declared.write_answer.WriteAnswer.TheVariants.{Written, BadCommand, BadMask}
+use Rattle.writer.specs.Refusals.{WriteAnswer}
+use Rattle.writer.specs.declared.write_answer.WriteRefusal.{WriteRefusal}
+use Rattle.writer.specs.declared.write_answer.WriteRefusal.TheVariants.{BadScale, BadBlues, BadCommand, BadMask}
+use Rattle.writer.specs.declared.write_answer.WriteRefusal.TheVariants.{ScriptRoom}
+use Rattle.std.proofs.Common.{Ok, Err}
 use Rattle.writer.specs.Pieces.{Piece, pieces_of, piece_words, given_operands, piece_at, bytes_taken}
 use Rattle.writer.specs.Refusals.{write_number, given_rows, bad_piece, too_long, piece_rows, FineParams}
 use Rattle.writer.proofs.Cutting.{piece-at, no_pieces, cut_at}
 
 -- the answer of the tests from a word on, with so many bytes not yet taken
 abbrev pub found : List ℕ → ℕ → ℕ → WriteAnswer
-found ws i left = first_or (Written 0) (piece_rows i left (pieces_of given_operands (drop i ws)))
+found ws i left = first_or (Ok 0) (piece_rows i left (pieces_of given_operands (drop i ws)))
 
 -- the word behind a piece
 abbrev pub next_piece : List ℕ → ℕ → ℕ
@@ -46,21 +49,21 @@ module _ (ws : List ℕ) (i : ℕ) (h : i < length ws) where
   module _ (left : ℕ) where
     -- the tests of a piece, then those behind it
     found_at : found ws i left ≡
-        cond (bad_piece (piece_at ws i)) (BadCommand i)
-        (cond (too_long (bytes_taken (piece_at ws i)) left) (BadMask i)
-        (first_or (Written 0)
+        cond (bad_piece (piece_at ws i)) (Err (BadCommand i))
+        (cond (too_long (bytes_taken (piece_at ws i)) left) (Err (BadMask i))
+        (first_or (Ok 0)
         (piece_rows (i + length (piece_words (piece_at ws i))) (left - bytes_taken (piece_at ws i))
         (pieces_of given_operands (drop (next_piece ws i) ws)))))
     unfolding first_or piece_rows
-    found_at = ap (λ (ps : List Piece). first_or (Written 0) (piece_rows i left ps)) (piece-at ws i h)
+    found_at = ap (λ (ps : List Piece). first_or (Ok 0) (piece_rows i left ps)) (piece-at ws i h)
 
     -- a bad piece
-    pub found-bad : bad_piece (piece_at ws i) ≡ true → BadCommand i ≡ found ws i left
+    pub found-bad : bad_piece (piece_at ws i) ≡ true → Err (BadCommand i) ≡ found ws i left
     found-bad e = sym (rw e at found_at)
 
     -- a mask that is too long
     pub found-long : bad_piece (piece_at ws i) ≡ false → too_long (bytes_taken (piece_at ws i)) left ≡ true →
-        BadMask i ≡ found ws i left
+        Err (BadMask i) ≡ found ws i left
     found-long e l = sym (rw (e, l) at found_at)
 
     -- and neither
@@ -68,18 +71,18 @@ module _ (ws : List ℕ) (i : ℕ) (h : i < length ws) where
         found ws i left ≡ found ws (next_piece ws i) (left - bytes_taken (piece_at ws i))
     found-next e l =
         (rw (e, l) at found_at) ∙
-        ap (λ (k : ℕ). first_or (Written 0)
+        ap (λ (k : ℕ). first_or (Ok 0)
         (piece_rows k (left - bytes_taken (piece_at ws i)) (pieces_of given_operands (drop (next_piece ws i) ws))))
         (piece-words (piece-there e))
 
 -- behind the last piece no byte may be left
 pub found-end : (ws : List ℕ) (i left : ℕ) → length ws ≤ i →
-    found ws i left ≡ cond (ltb 0 left) (BadMask i) (Written 0)
+    found ws i left ≡ cond (ltb 0 left) (Err (BadMask i)) (Ok 0)
 unfolding first_or piece_rows
 found-end ws i left h =
-    ap (λ (l : List ℕ). first_or (Written 0) (piece_rows i left (pieces_of given_operands l)))
+    ap (λ (l : List ℕ). first_or (Ok 0) (piece_rows i left (pieces_of given_operands l)))
     (drop_of_length-le ws h) ∙
-    ap (λ (ps : List Piece). first_or (Written 0) (piece_rows i left ps)) (no_pieces given_operands)
+    ap (λ (ps : List Piece). first_or (Ok 0) (piece_rows i left ps)) (no_pieces given_operands)
 
 -- a mask that is not too long takes no more bytes than are left
 pub taken-left : (len left : ℕ) → too_long len left ≡ false → len ≤ left
@@ -149,12 +152,20 @@ pieces-refuse place left [] = (omega arith, tt)
 pieces-refuse place left (p ∷ ps) =
     (omega arith, (omega arith, pieces-refuse (place + length (piece_words p)) (left - bytes_taken p) ps))
 
+-- so is every refusal
+pub err-number : (r : WriteRefusal) → 0 < write_number (Err r)
+err-number BadScale = omega arith
+err-number (BadBlues p) = omega arith
+err-number (BadCommand p) = omega arith
+err-number (BadMask p) = omega arith
+err-number ScriptRoom = omega arith
+
 -- a refusal is not the answer for where none refuses
-pub not-fine : (a : WriteAnswer) → 0 < write_number a → a ≡ Written 0 → ⊥
+pub not-fine : (a : WriteAnswer) → 0 < write_number a → a ≡ Ok 0 → ⊥
 not-fine a h e = absurd (omega (arith, ap write_number e))
 
 -- so none of them says that none holds
-pub refusing : (rs : List (Row WriteAnswer)) → Refuse rs → Refusing (Written 0) rs
+pub refusing : (rs : List (Row WriteAnswer)) → Refuse rs → Refusing (Ok 0) rs
 refusing [] h j l = absurd (omega arith)
 refusing (r ∷ rs) h zero l = not-fine r.said h.0
 refusing (r ∷ rs) h (suc j) l = refusing rs h.1 j (omega arith)
@@ -172,6 +183,6 @@ none-hold ok (r ∷ rs) h e = by r.fault refl e (λ q. none-hold ok rs h.1 q)
     by false f q g = (f, g q)
 
 -- so it is that for where none does
-pub fine-is : (rs : List (Row WriteAnswer)) → Refuse rs → write_number (first_or (Written 0) rs) ≡ 0 →
-    first_or (Written 0) rs ≡ Written 0
-fine-is rs h e = none-answer (Written 0) rs (none-hold (Written 0) rs h e)
+pub fine-is : (rs : List (Row WriteAnswer)) → Refuse rs → write_number (first_or (Ok 0) rs) ≡ 0 →
+    first_or (Ok 0) rs ≡ Ok 0
+fine-is rs h e = none-answer (Ok 0) rs (none-hold (Ok 0) rs h e)

@@ -55,6 +55,21 @@ script-length g =
       padded-length g.masks,
     )
 
+-- the words of parameters and commands by what is counted of them, and so the size
+pub record Counted (g : Given) (n m : ℕ) : Type 0 where
+  pub params : n ≡ length (param_words g.params)
+  pub words : length g.commands + m ≡ length (command_words g.commands)
+  pub size : 4 * (8 + n + (length g.commands + m) + padded (length g.masks)) ≡ length (script_for g)
+
+pub counted : (g : Given) (n m : ℕ) → n ≡ length (param_words g.params) → m ≡ masks_in (pieces_in g.commands) →
+    Counted g n m
+counted g n m p q =
+    record {
+      params = p;
+      words = omega (arith, q, commands-length g.commands);
+      size = omega (arith, p, q, commands-length g.commands, script-length g);
+    }
+
 -- ---- the parts stored one behind the other are the script
 module _ (g : Given) (b : List ℕ) (r : length (script_for g) ≤ length b) where
   abbrev ps : List ℕ

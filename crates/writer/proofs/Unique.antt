@@ -7,10 +7,10 @@ use borrow.Fn.Kinds.{ended_of}
 use borrow.Fn.World.{ArgsD, ResD}
 use contract.Lifetimes.{Lfts}
 use denote.Triple.Clauses.{AtExit}
-use Rattle.writer.specs.declared.write_answer.WriteAnswer.{WriteAnswer}
-use Rattle.writer.proofs.write_answer.WriteAnswer.code.Reads as code_Reads
-use Rattle.writer.proofs.write_answer.WriteAnswer.place.Reads as place-reads
-use Rattle.writer.proofs.write_answer.WriteAnswer.written.Reads as written-reads
+use Rattle.writer.specs.Refusals.{WriteAnswer}
+use Rattle.writer.proofs.write_answer.code.Reads as code_Reads
+use Rattle.writer.proofs.write_answer.place.Reads as place-reads
+use Rattle.writer.proofs.write_answer.written.Reads as written-reads
 use Rattle.writer.proofs.pieces.is_mask.Reads as is-mask-reads
 use Rattle.writer.proofs.pieces.given_operands.Reads as given-operands-reads
 use Rattle.writer.specs.contracts.param_words.params_from as params-from

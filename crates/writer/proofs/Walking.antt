@@ -11,7 +11,7 @@ use Rattle.fixed.specs.Integers.{bits_of}
 use Rattle.words.specs.Bytes.{laid}
 use Rattle.words.proofs.Laid.{laid-behind}
 use Rattle.commands.specs.Commands.{operands_of}
-use Rattle.writer.specs.declared.write_answer.WriteAnswer.TheVariants.{Written}
+use Rattle.std.proofs.Common.{Ok}
 use Rattle.writer.specs.Pieces.{Piece, pieces_of, piece_words, joined, given_operands, piece_at, bytes_taken}
 use Rattle.writer.specs.Pieces.{started, starts_from}
 use Rattle.writer.specs.ToWrite.{command_words}
@@ -26,7 +26,7 @@ pub record Sound (ws : List ℕ) (i start : ℕ) : Type 0 where
   pub bytes : ℕ
   pub few : bytes ≤ 65536
   pub taken : start ≤ bytes
-  pub faultless : found ws i (bytes - start) ≡ Written 0
+  pub faultless : found ws i (bytes - start) ≡ Ok 0
   pub inside : i ≤ length ws
 
 -- at the start all is left
@@ -48,7 +48,7 @@ module _ (ws : List ℕ) (i start : ℕ) (h : i < length ws) (s : Sound ws i sta
   sound-tests =
       let left = s.bytes - start in
       let c = rw (piece-at ws i h) at
-      (none-hold (Written 0) (piece_rows i left (pieces_of given_operands (drop i ws)))
+      (none-hold (Ok 0) (piece_rows i left (pieces_of given_operands (drop i ws)))
       (pieces-refuse i left (pieces_of given_operands (drop i ws))) (ap write_number s.faultless)) in
       (c.0, c.1.0)
 
@@ -125,15 +125,17 @@ pub turned : (ws : List ℕ) (i start : ℕ) → i < length ws → Sound ws i st
     next ≡ given_operands (get_or ws i 0) → taken ≡ bytes_taken (piece_at ws i) →
     b' ≡ laid b to (piece_words (started start (piece_at ws i))) → 4 * (to + length (left ws i start)) ≤ length b →
     laid b to (left ws i start) ≡ whole →
-    (laid b' (to + 1 + many) (left ws (i + 1 + next) (start + taken)) ≡ whole) ×
-    (Sound ws (i + 1 + next) (start + taken) ×
-    (4 * (to + 1 + many + length (left ws (i + 1 + next) (start + taken))) ≤ length b))
+    (laid b' (to + (1 + many)) (left ws (i + (1 + next)) (start + taken)) ≡ whole) ×
+    (Sound ws (i + (1 + next)) (start + taken) ×
+    (4 * (to + (1 + many) + length (left ws (i + (1 + next)) (start + taken))) ≤ length b))
 turned ws i start h s b b' whole to many next taken m n t e r w =
     let l = sound-there ws i start h s in
     let p = piece_words (started start (piece_at ws i)) in
     let q = left ws (next_piece ws i) (start + bytes_taken (piece_at ws i)) in
     let o = stored-words ws i start h l in
-    rw (m, n, t) (
+    let stored : to + (1 + operands_of (get_or ws i 0)) ≡ to + 1 + operands_of (get_or ws i 0) = omega arith in
+    let behind : i + (1 + given_operands (get_or ws i 0)) ≡ next_piece ws i = omega arith in
+    rw (m, n, t, stored, behind) (
       ap (λ (x : List ℕ). laid x (to + 1 + operands_of (get_or ws i 0)) q) e ∙ sym (piece-laid b to ws i start h l r) ∙
           w,
       (

@@ -11,5 +11,5 @@ mod writing;
 
 pub use param_words::params_from;
 pub use pieces::{given_operands, is_mask};
-pub use write_answer::WriteAnswer;
+pub use write_answer::{WriteAnswer, WriteRefusal, code, place, written};
 pub use writing::write_script;

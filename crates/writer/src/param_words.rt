@@ -26,10 +26,7 @@ const LIST_WORDS: usize = 2 * MAX_BLUES;
 fn word_or_zero(words: &[i32], i: usize) -> i32
     ensures { result ≡ get_or words.now i (pos 0) }
 {
-    if i < words.len() {
-        return words[i];
-    }
-    0
+    words.get(i).copied().unwrap_or(0)
 }
 
 fn number_or_zero(words: &[i32], i: usize) -> Fixed

@@ -49,11 +49,11 @@ pub(crate) fn count_params(params: HintParams) -> usize
     requires { FineParams params }
     ensures { (result ≡ length (param_words params)) × (result ≤ 64) }
 {
-    let blues = params.blues;
-    let others = params.other_blues;
-    let family = params.family_blues;
-    let family_others = params.family_other_blues;
-    layout::MIN_PARAMS + 2 * (blues.count + others.count + family.count + family_others.count)
+    let pairs = params.blues.count
+        + params.other_blues.count
+        + params.family_blues.count
+        + params.family_other_blues.count;
+    layout::MIN_PARAMS + 2 * pairs
 }
 
 // The four numbers and the four counts.
@@ -61,23 +61,15 @@ fn store_numbers(script: &mut [u8], params: HintParams)
     requires { (64 ≤ length script.old) × FineParams params }
     ensures { script.new ≡ laid script.old 8 (number_words params) }
 {
-    let scale = params.blue_scale;
-    let shift = params.blue_shift;
-    let fuzz = params.blue_fuzz;
-    let group = params.language_group;
-    let blues = params.blues;
-    let others = params.other_blues;
-    let family = params.family_blues;
-    let family_others = params.family_other_blues;
     let words = [
-        scale.bits,
-        shift.bits,
-        fuzz.bits,
-        group,
-        blues.count as i32,
-        others.count as i32,
-        family.count as i32,
-        family_others.count as i32,
+        params.blue_scale.bits,
+        params.blue_shift.bits,
+        params.blue_fuzz.bits,
+        params.language_group,
+        params.blues.count as i32,
+        params.other_blues.count as i32,
+        params.family_blues.count as i32,
+        params.family_other_blues.count as i32,
     ];
     store_words(script, layout::BLUE_SCALE, &words);
 }
@@ -95,8 +87,8 @@ fn store_blues(script: &mut [u8], first: usize, blues: Blues)
     requires { (blues.count ≤ max_blues) × (4 * first + 8 * blues.count ≤ length script.old) }
     ensures { script.new ≡ laid script.old first (pair_words (list_of blues)) }
 {
-    for i in 0..blues.count {
-        store_pair(script, first + 2 * i, blues.pairs[i]);
+    for (i, pair) in blues.pairs[..blues.count].iter().enumerate() {
+        store_pair(script, first + 2 * i, *pair);
     }
 }
 
@@ -104,18 +96,14 @@ pub(crate) fn store_params(script: &mut [u8], params: HintParams)
     requires { (4 * (8 + length (param_words params)) ≤ length script.old) × FineParams params }
     ensures { script.new ≡ laid script.old 8 (param_words params) }
 {
-    let blues = params.blues;
-    let others = params.other_blues;
-    let family = params.family_blues;
-    let family_others = params.family_other_blues;
-    let at_others = layout::PAIRS + 2 * blues.count;
-    let at_family = at_others + 2 * others.count;
-    let at_family_others = at_family + 2 * family.count;
+    let at_others = layout::PAIRS + 2 * params.blues.count;
+    let at_family = at_others + 2 * params.other_blues.count;
+    let at_family_others = at_family + 2 * params.family_blues.count;
     store_numbers(script, params);
-    store_blues(script, layout::PAIRS, blues);
-    store_blues(script, at_others, others);
-    store_blues(script, at_family, family);
-    store_blues(script, at_family_others, family_others);
+    store_blues(script, layout::PAIRS, params.blues);
+    store_blues(script, at_others, params.other_blues);
+    store_blues(script, at_family, params.family_blues);
+    store_blues(script, at_family_others, params.family_other_blues);
 }
 
 // The piece at a word of the given ones, with its start if it is a mask.
@@ -146,12 +134,13 @@ pub(crate) fn store_commands(script: &mut [u8], first: usize, commands: &[i32])
     let mut start = 0;
     let mut to = first;
     let mut at = 0;
+    // A kind says how far the next piece is, so the index goes by what is read.
     while at < commands.len() {
         let kind = given_natural(commands, at);
         store_piece(script, to, commands, at, start as u32);
-        start = start + bytes_taken(commands, at);
-        to = to + 1 + operands(kind);
-        at = at + 1 + given_operands(kind);
+        start += bytes_taken(commands, at);
+        to += 1 + operands(kind);
+        at += 1 + given_operands(kind);
     }
 }
 
@@ -161,7 +150,5 @@ pub(crate) fn store_masks(part: &mut [u8], masks: &[u8])
     ensures { part.new ≡ padded_bytes masks.now }
 {
     copy_bytes(masks, part);
-    for i in masks.len()..part.len() {
-        part[i] = 0;
-    }
+    part[masks.len()..].fill(0);
 }

@@ -8,6 +8,7 @@ ghost use Rattle.writer.specs.Refusals.{bad_piece};
 use commands::operands;
 use fixed::bits_of;
 
+// 01's numbers of the two masks, and of the last kind.
 const HINT_MASK: usize = 2;
 
 const COUNTER_MASK: usize = 3;
@@ -17,13 +18,11 @@ const LAST_KIND: usize = 9;
 pub fn is_mask(kind: usize) -> bool
     ensures { result ≡ is_mask kind }
 {
-    if kind == HINT_MASK {
-        return true;
-    }
-    kind == COUNTER_MASK
+    matches!(kind, HINT_MASK | COUNTER_MASK)
 }
 
 // How many operands a kind has as it is given: a mask its length alone.
+#[tactic(auto, unfolding(crate::specs::Pieces::given_operands))]
 pub fn given_operands(kind: usize) -> usize
     ensures { (result ≡ given_operands kind) × (result ≤ 6) }
 {
@@ -55,13 +54,7 @@ pub(crate) fn bad_piece(commands: &[i32], at: usize) -> bool
     ensures { result ≡ bad_piece (piece_at (map bits_of commands.now) at) }
 {
     let kind = given_natural(commands, at);
-    if kind < 1 {
-        return true;
-    }
-    if LAST_KIND < kind {
-        return true;
-    }
-    commands.len() < at + 1 + given_operands(kind)
+    kind < 1 || LAST_KIND < kind || commands.len() < at + 1 + given_operands(kind)
 }
 
 // The mask bytes that the piece at a word takes.
@@ -69,10 +62,7 @@ pub(crate) fn bytes_taken(commands: &[i32], at: usize) -> usize
     requires { at < length commands.now }
     ensures { (result ≡ bytes_taken (piece_at (map bits_of commands.now) at)) × (result < 4294967296) }
 {
-    if !is_mask(given_natural(commands, at)) {
-        return 0;
-    }
-    if commands.len() <= at + 1 {
+    if !is_mask(given_natural(commands, at)) || commands.len() <= at + 1 {
         return 0;
     }
     given_natural(commands, at + 1)
@@ -84,10 +74,11 @@ pub(crate) fn count_masks(commands: &[i32]) -> usize
 {
     let mut count = 0;
     let mut at = 0;
+    // A kind says how far the next piece is, so the index goes by what is read.
     while at < commands.len() {
         let kind = given_natural(commands, at);
-        count = count + (is_mask(kind) as usize);
-        at = at + 1 + given_operands(kind);
+        count += usize::from(is_mask(kind));
+        at += 1 + given_operands(kind);
     }
     count
 }

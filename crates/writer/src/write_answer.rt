@@ -1,13 +1,13 @@
-// The writer's answer, with the place that it names and the bytes that were written.
+// The writer's answer: the bytes that were written, or a refusal with the place that it names.
 ghost use Rattle.std.specs.Prelude.{◌≡◌};
 ghost use Rattle.writer.specs.Refusals.{write_number, write_place, written_bytes};
 
+use std::error::Error;
+use std::fmt;
 use words::layout;
 
-#[derive(Clone, Copy)]
-pub enum WriteAnswer {
-    // OK, and the bytes of the script.
-    Written(usize),
+#[derive(Clone, Copy, Debug, PartialEq, Eq)]
+pub enum WriteRefusal {
     BadScale,
     BadBlues(usize),
     BadCommand(usize),
@@ -15,44 +15,69 @@ pub enum WriteAnswer {
     ScriptRoom,
 }
 
-impl WriteAnswer {
+// The bytes of the script, or why there is none.
+pub type WriteAnswer = Result<usize, WriteRefusal>;
+
+impl WriteRefusal {
     pub fn code(self) -> u32
-        ensures { result ≡ write_number self }
+        ensures { result ≡ write_number (Err self) }
     {
         match self {
-            WriteAnswer::Written(_) => 0,
-            WriteAnswer::BadScale => 2,
-            WriteAnswer::BadBlues(_) => 3,
-            WriteAnswer::BadCommand(_) => 4,
-            WriteAnswer::BadMask(_) => 5,
-            WriteAnswer::ScriptRoom => 7,
+            Self::BadScale => 2,
+            Self::BadBlues(_) => 3,
+            Self::BadCommand(_) => 4,
+            Self::BadMask(_) => 5,
+            Self::ScriptRoom => 7,
         }
     }
 
     // The scale and the counts by their words in a script, the others by the command words given.
     pub fn place(self) -> usize
-        ensures { result ≡ write_place self }
+        ensures { result ≡ write_place (Err self) }
     {
         match self {
-            WriteAnswer::Written(_) => 0,
-            WriteAnswer::BadScale => layout::SCALE,
-            WriteAnswer::BadBlues(at) => at,
-            WriteAnswer::BadCommand(at) => at,
-            WriteAnswer::BadMask(at) => at,
-            WriteAnswer::ScriptRoom => 0,
+            Self::BadScale => layout::SCALE,
+            Self::BadBlues(at) | Self::BadCommand(at) | Self::BadMask(at) => at,
+            Self::ScriptRoom => 0,
         }
     }
+}
 
-    pub fn written(self) -> usize
-        ensures { result ≡ written_bytes self }
-    {
+impl fmt::Display for WriteRefusal {
+    fn fmt<W: fmt::Write>(&self, f: &mut fmt::Formatter<W>) -> fmt::Result {
         match self {
-            WriteAnswer::Written(bytes) => bytes,
-            WriteAnswer::BadScale => 0,
-            WriteAnswer::BadBlues(_) => 0,
-            WriteAnswer::BadCommand(_) => 0,
-            WriteAnswer::BadMask(_) => 0,
-            WriteAnswer::ScriptRoom => 0,
+            Self::BadScale => f.write_str("the scale is not above 0"),
+            Self::BadBlues(at) => write!(f, "more than seven pairs by word {at}"),
+            Self::BadCommand(at) => write!(f, "no command at given word {at}"),
+            Self::BadMask(at) => write!(f, "mask bytes do not fit at given word {at}"),
+            Self::ScriptRoom => f.write_str("no room for the script"),
         }
     }
+}
+
+impl Error for WriteRefusal {}
+
+// The number of the answer, 0 for a script that was written.
+pub fn code(answer: WriteAnswer) -> u32
+    ensures { result ≡ write_number answer }
+{
+    match answer {
+        Ok(_) => 0,
+        Err(refusal) => refusal.code(),
+    }
+}
+
+pub fn place(answer: WriteAnswer) -> usize
+    ensures { result ≡ write_place answer }
+{
+    match answer {
+        Ok(_) => 0,
+        Err(refusal) => refusal.place(),
+    }
+}
+
+pub fn written(answer: WriteAnswer) -> usize
+    ensures { result ≡ written_bytes answer }
+{
+    answer.unwrap_or(0)
 }

@@ -7,7 +7,7 @@ ghost use Rattle.writer.specs.Refusals.{write_of, Wrote, Writable};
 use crate::parts::{count_params, store_commands, store_header, store_masks, store_params};
 use crate::pieces::count_masks;
 use crate::tests::{check_given, no_room};
-use crate::write_answer::WriteAnswer;
+use crate::write_answer::{WriteAnswer, WriteRefusal};
 use fixed::Fixed;
 use words::layout;
 use zones::HintParams;
@@ -56,14 +56,11 @@ pub fn write_script(
         (write_of (given scale params commands.now masks.now) script.old) result
         script.new }
 {
-    let fault = check_given(scale, params, commands, masks.len());
-    if fault.code() != 0 {
-        return fault;
-    }
+    check_given(scale, params, commands, masks.len())?;
     let count = count_params(params);
     let words = commands.len() + count_masks(commands);
     if no_room(count, words, masks.len(), script.len()) {
-        return WriteAnswer::ScriptRoom;
+        return Err(WriteRefusal::ScriptRoom);
     }
-    WriteAnswer::Written(write_parts(scale, params, commands, masks, script))
+    Ok(write_parts(scale, params, commands, masks, script))
 }

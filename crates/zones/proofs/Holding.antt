@@ -3,30 +3,39 @@ use mathlib.Core.Path.{◌≡◌, refl, sym, ◌∙◌}
 use mathlib.Core.Bool.{Bool, true, false, cond, true≢false}
 use mathlib.Core.List.{List}
 use Prim.Native.Nat.{ℕ, ◌+◌, ◌≤◌, ◌<◌}
-use lib.ListN.{length, take, drop, get_or}
+use native.Mathlib.Omega.{arith}
+use lib.IntN.{ℤ}
+use lib.ListN.{length, take, drop}
 use Rattle.fixed.specs.declared.Fixed.{Fixed}
 use Rattle.fixed.specs.Fixed.{add_f}
 use Rattle.stems.specs.declared.edge.Hint.{Hint}
 use Rattle.stems.specs.Edge.{is_valid, with_device, locked_at}
 use Rattle.zones.specs.declared.blues.BlueZone.{BlueZone}
-use Rattle.zones.specs.declared.capture.Held.TheVariants.{By, Free}
+use Rattle.std.specs.Prelude.{Option, Some, None}
 use Rattle.zones.specs.Zones.{no_zone}
 use Rattle.zones.specs.Capture.{holds, first_holding, lifted}
+use Rattle.zones.specs.Numbers.{zone_in, zones_in}
+use Rattle.zones.proofs.Listing.{zones-long, zone-in}
 use Rattle.zones.proofs.Taken.{taken_more, taken-ends}
 
--- the first of n zones that holds, from zone i on
-module _ (fuzz : Fixed) (b t : Hint) (zs : List BlueZone) (n : ℕ) (fits : n ≤ length zs) (i : ℕ) where
+-- the first of n zones of a list that holds, from zone i on
+module _ (fuzz : Fixed) (b t : Hint) (ns : List ℤ) (n : ℕ) (few : n ≤ 12) (i : ℕ) where
+  abbrev from_place : ℕ → Option BlueZone
+  from_place k = first_holding fuzz b t (drop k (take n (zones_in ns)))
+
+  room : n ≤ length (zones_in ns)
+  room = omega (arith, zones-long ns)
+
   -- it is zone i where that holds, and is among the later ones where not
-  pub holder-at : i < n → let z = get_or zs i no_zone in
-      first_holding fuzz b t (drop i (take n zs)) ≡
-      cond (holds fuzz b t z) (By z) (first_holding fuzz b t (drop (i + 1) (take n zs)))
+  pub holder-at : i < n → {z : BlueZone} {h : Bool} → z ≡ zone_in ns i → h ≡ holds fuzz b t z →
+      from_place i ≡ cond h (Some z) (from_place (i + 1))
   unfolding first_holding
-  holder-at l = rw (taken_more n zs fits i no_zone l)
+  holder-at l e f = rw (taken_more n (zones_in ns) room i no_zone l, zone-in ns i (omega arith), sym e, sym f)
 
   -- no zone is left
-  pub holder-ends : n ≤ i → first_holding fuzz b t (drop i (take n zs)) ≡ Free
+  pub holder-ends : n ≤ i → from_place i ≡ None
   unfolding first_holding
-  holder-ends l = rw (taken-ends n zs fits i l)
+  holder-ends l = rw (taken-ends n (zones_in ns) room i l)
 
 -- what a captured edge keeps, and that it is locked where it is valid
 pub record Keeps (e r : Hint) : Type 0 where

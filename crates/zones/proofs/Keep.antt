@@ -2,12 +2,14 @@
 use mathlib.Core.Path.{◌≡◌, refl, sym, ap, ◌∙◌}
 use mathlib.Core.Bool.{Bool, true, false, cond}
 use mathlib.Core.List.{List, [], ◌∷◌, ◌++◌, map, map-append, append_assoc, append-nil}
-use Prim.Native.Nat.{ℕ, suc, ◌+◌, ◌-◌, ◌≤◌, ◌<◌}
+use Prim.Native.Nat.{ℕ, suc, min, ◌+◌, ◌-◌, ◌≤◌, ◌<◌}
 use native.Mathlib.Numerals.{add-one}
 use native.Mathlib.Omega.{arith}
-use lib.ListN.{length, take, drop, get_or, set, length-append, length-take, length-map}
-use borrow.Author.Tests.{ne_eqb}
-use lib.Seq.{set_at, take-suc, length-take-le}
+use lib.ListN.{length, take, drop, get_or, set, length-append, length-take, length-map, drop_of_length-le}
+use borrow.Author.Tests.{ne_eqb, leb-true, leb-false}
+use Rattle.std.specs.Prelude.{leb}
+use Rattle.fixed.proofs.Counts.{take-least}
+use lib.Seq.{set_at, take-suc, take-take, take_all, drop-cons, length-take-le}
 use Rattle.fixed.specs.declared.Fixed.{Fixed}
 use Rattle.fixed.specs.Fixed.{ZERO, sub_f, less_f, max_f}
 use Rattle.stems.specs.declared.edge.Side.{Side}
@@ -18,19 +20,18 @@ use Rattle.zones.specs.declared.blues.BlueZone.{BlueZone}
 use Rattle.zones.specs.declared.blues.Zones.{Zones}
 use Rattle.zones.specs.Zones.{no_blue, no_zone, height_of, zone_of, sift, blues_zones, greatest_from, filled, packed}
 use Rattle.zones.specs.Zones.{no_zones, pushed, kept_side, kept_in, read_in, list_of, kept}
-use Rattle.zones.proofs.Taken.{taken_more, taken-ends}
 
-module _ (other : Bool) (q : Zones) (n : ℕ) (bs : List Blue) (fits : n ≤ length bs) (i : ℕ) where
+module _ (other : Bool) (q : Zones) (bs : List Blue) (i : ℕ) where
   -- a pair more of those to be read
-  pub read_more : i < n → read_in other q (drop i (take n bs)) ≡
-      read_in other (kept_in other q (get_or bs i no_blue)) (drop (i + 1) (take n bs))
+  pub read_more : i < length bs →
+      read_in other q (drop i bs) ≡ read_in other (kept_in other q (get_or bs i no_blue)) (drop (i + 1) bs)
   unfolding read_in
-  read_more l = rw (taken_more n bs fits i no_blue l)
+  read_more l = rw (drop-cons bs i no_blue l, add-one i)
 
   -- none are left
-  pub read-ends : n ≤ i → read_in other q (drop i (take n bs)) ≡ q
+  pub read-ends : length bs ≤ i → read_in other q (drop i bs) ≡ q
   unfolding read_in
-  read-ends l = rw (taken-ends n bs fits i l)
+  read-ends l = rw (drop_of_length-le bs l)
 
 -- ---- zones kept, as a list
 abbrev span : BlueZone → Fixed
@@ -134,6 +135,39 @@ kept-length blues others h =
     let five = take 5 (list_of others) in
     simp (length-append, length-map)
     (omega (arith, blues-length (list_of blues), sift-length five, length-take 5 (list_of others)))
+
+-- at most five other blues are read
+take-others : (n : ℕ) (bs : List Blue) → take (min n 5) bs ≡ take 5 (take n bs)
+take-others n bs = go (leb n 5) refl
+  where
+    go : (t : Bool) → leb n 5 ≡ t → take (min n 5) bs ≡ take 5 (take n bs)
+    go true h =
+        let few : min n 5 ≡ n = omega (arith, leb-true n 5 h) in
+        rw (few, take_all 5 (take n bs) (omega (arith, length-take n bs, leb-true n 5 h)))
+    go false h =
+        let many : min n 5 ≡ 5 = omega (arith, leb-false n 5 h) in
+        rw (many, take-take 5 n bs (omega (arith, leb-false n 5 h)))
+
+-- the blues read into no zones, then the other blues
+module _ (blues others : Blues) (seven : length blues.pairs ≡ 7) where
+  abbrev first : Zones
+  first = read_in false no_zones (take (min blues.count 7) blues.pairs)
+
+  few : length (list_of blues) ≤ 7
+  few = omega (arith, length-take blues.count blues.pairs)
+
+  first-is : first ≡ packed (blues_zones (sift (list_of blues)))
+  first-is = rw (take-least blues.count 7 blues.pairs seven) (read-blues (list_of blues) (omega (arith, few)))
+
+  pub first-count : first.count ≤ 7
+  first-count = rw first-is (omega (arith, blues-length (list_of blues), few))
+
+  pub kept-is : read_in true first (take (min others.count 5) others.pairs) ≡ packed (kept blues others)
+  unfolding kept
+  kept-is =
+      let five = take 5 (list_of others) in
+      rw (first-is, take-others others.count others.pairs) (read-others (blues_zones (sift (list_of blues))) five
+      (omega (arith, blues-length (list_of blues), few, length-take 5 (list_of others))))
 
 -- zones that are changed alike: one more
 pub each_more : (f : BlueZone → BlueZone) (zs : List BlueZone) (i : ℕ) → i < length zs → i < 12 →

@@ -1,13 +1,11 @@
 -- Capture (01, "Zones", last paragraph).
-use Rattle.std.specs.Prelude.{Bool, true, false, cond, ◌&&◌, List, [], ◌∷◌, take}
+use Rattle.std.specs.Prelude.{Bool, true, false, cond, ◌&&◌, List, [], ◌∷◌, take, Option, Some, None}
 use Rattle.fixed.specs.declared.Fixed.{Fixed}
 use Rattle.fixed.specs.Fixed.{ONE, add_f, sub_f, round_f, at_most_f, min_f, max_f}
 use Rattle.stems.specs.declared.edge.Hint.{Hint}
 use Rattle.stems.specs.Edge.{is_valid, is_bottom, is_top, locked_at}
 use Rattle.zones.specs.declared.blues.BlueZone.{BlueZone}
 use Rattle.zones.specs.declared.state.HintState.{HintState}
-use Rattle.zones.specs.declared.capture.Held.{Held}
-use Rattle.zones.specs.declared.capture.Held.TheVariants.{By, Free}
 use Rattle.zones.specs.declared.capture.Captured.{Captured}
 
 -- a height between zone bottom − fuzz and zone top + fuzz, ends included
@@ -20,9 +18,9 @@ holds fuzz b t z =
     cond z.is_bottom (is_bottom b && within fuzz z b.cs_coord) (is_top t && within fuzz z t.cs_coord)
 
 -- the first zone that holds
-unfoldable pub first_holding : Fixed → Hint → Hint → List BlueZone → Held
-first_holding fuzz b t [] = Free
-first_holding fuzz b t (z ∷ zs) = cond (holds fuzz b t z) (By z) (first_holding fuzz b t zs)
+unfoldable pub first_holding : Fixed → Hint → Hint → List BlueZone → Option BlueZone
+first_holding fuzz b t [] = None
+first_holding fuzz b t (z ∷ zs) = cond (holds fuzz b t z) (Some z) (first_holding fuzz b t zs)
 
 -- where a held bottom edge goes: with suppression to the device flat edge; else it rounds, and
 -- where it lies at least blue shift under the zone's top it goes no higher than device flat − 1.0
@@ -51,9 +49,9 @@ unfoldable pub lifted : Hint → Fixed → Hint
 lifted e by = cond (is_valid e) (locked_at e (add_f e.ds_coord by)) e
 
 -- both valid edges move alike
-abbrev pub captured_by : Held → HintState → Hint → Hint → Captured
-captured_by Free st b t = record { captured = false; bottom = b; top = t }
-captured_by (By z) st b t =
+abbrev pub captured_by : Option BlueZone → HintState → Hint → Hint → Captured
+captured_by None st b t = record { captured = false; bottom = b; top = t }
+captured_by (Some z) st b t =
     record { captured = true; bottom = lifted b (capture_move st z b t); top = lifted t (capture_move st z b t) }
 
 unfoldable pub capture_of : HintState → Hint → Hint → Captured

@@ -1,6 +1,6 @@
 // Lists of pairs, the zones kept of them, and their flat edges.
-ghost use Rattle.std.specs.Prelude.{◌≡◌, ◌+◌, ◌<◌, ◌≤◌, take, get_or};
-ghost use Rattle.zones.specs.Zones.{max_blues, max_zones, height_of, wholly_below, wholly_above, no_blue, no_zone};
+ghost use Rattle.std.specs.Prelude.{◌≡◌, ◌+◌, ◌≤◌, take};
+ghost use Rattle.zones.specs.Zones.{max_blues, max_zones, height_of, wholly_below, wholly_above, no_zone};
 ghost use Rattle.zones.specs.Zones.{zone_of, no_zones, kept_side, read_in, family_edge, family_from};
 ghost use Rattle.zones.specs.Zones.{nearer, nearest_of, moved_flat, device_flat};
 
@@ -16,19 +16,19 @@ pub const MAX_OTHER_BLUES: usize = 5;
 pub const MAX_BLUE_ZONES: usize = 12;
 
 // A pair of character heights.
-#[derive(Clone, Copy)]
+#[derive(Clone, Copy, Debug, PartialEq, Eq)]
 pub struct Blue {
     pub bottom: Fixed,
     pub top: Fixed,
 }
 
-#[derive(Clone, Copy)]
+#[derive(Clone, Copy, Debug, PartialEq, Eq)]
 pub struct Blues {
     pub pairs: [Blue; MAX_BLUES],
     pub count: usize,
 }
 
-#[derive(Clone, Copy)]
+#[derive(Clone, Copy, Debug, PartialEq, Eq)]
 pub struct BlueZone {
     pub is_bottom: bool,
     pub cs_bottom_edge: Fixed,
@@ -38,7 +38,7 @@ pub struct BlueZone {
 }
 
 // Zones as they are kept, with the greatest of their heights, or 0.
-#[derive(Clone, Copy)]
+#[derive(Clone, Copy, Debug, PartialEq, Eq)]
 pub struct Zones {
     pub list: [BlueZone; MAX_BLUE_ZONES],
     pub count: usize,
@@ -46,7 +46,7 @@ pub struct Zones {
 }
 
 // The family edge nearest to a flat edge so far, and how far it is.
-#[derive(Clone, Copy)]
+#[derive(Clone, Copy, Debug, PartialEq, Eq)]
 pub struct Nearest {
     pub edge: Fixed,
     pub diff: Fixed,
@@ -63,20 +63,24 @@ impl Blue {
     pub(crate) fn wholly_below(self, height: Fixed) -> bool
         ensures { result ≡ wholly_below height self }
     {
-        if !self.bottom.less(height) {
-            return false;
-        }
-        self.top.less(height)
+        self.bottom < height && self.top < height
     }
 
     // Both ends lie above a height.
     pub(crate) fn wholly_above(self, height: Fixed) -> bool
         ensures { result ≡ wholly_above height self }
     {
-        if !height.less(self.bottom) {
-            return false;
+        height < self.bottom && height < self.top
+    }
+
+    // The edge that a pair of a family gives: the top for bottom zones, the bottom for top zones.
+    pub(crate) fn edge(self, side: Side) -> Fixed
+        ensures { result ≡ family_edge side self }
+    {
+        match side {
+            Side::Bottom => self.top,
+            Side::Top => self.bottom,
         }
-        height.less(self.top)
     }
 }
 
@@ -125,41 +129,44 @@ impl BlueZone {
         ensures { result ≡ moved_flat others blues limit self }
     {
         let flat = self.cs_flat_edge;
-        let mut zone = self;
-        if self.is_bottom {
-            let mut near = others.nearest(flat, limit, Side::Bottom);
-            if blues.count != 0 {
-                let first = blues.pairs[0];
-                near = near.with(flat, limit, first.top);
-            }
-            let edge = near.edge;
-            zone.cs_flat_edge = edge;
-            return zone;
+        if !self.is_bottom {
+            let near = blues.nearest(flat, limit, Side::Top);
+            return BlueZone {
+                cs_flat_edge: near.edge,
+                ..self
+            };
         }
-        let near = blues.nearest(flat, limit, Side::Top);
-        let edge = near.edge;
-        zone.cs_flat_edge = edge;
-        zone
+        let mut near = others.nearest(flat, limit, Side::Bottom);
+        if blues.count != 0 {
+            let first = blues.pairs[0];
+            near = near.with(flat, limit, first.top);
+        }
+        BlueZone {
+            cs_flat_edge: near.edge,
+            ..self
+        }
     }
 
     // From `build_zones`: the flat edge on the device. The boost goes away from the glyph's middle.
+    #[tactic(auto, unfolding(crate::specs::Zones::device_flat))]
     pub(crate) fn on_device(self, scale: Fixed, boost: Fixed) -> BlueZone
         ensures { result ≡ device_flat scale boost self }
     {
         let flat = self.cs_flat_edge.mul(scale);
-        let mut zone = self;
-        if self.is_bottom {
-            let device = flat.add(boost.neg()).round();
-            zone.ds_flat_edge = device;
-            return zone;
+        let device = if self.is_bottom {
+            flat.add(boost.neg()).round()
+        } else {
+            flat.add(boost).round()
+        };
+        BlueZone {
+            ds_flat_edge: device,
+            ..self
         }
-        let device = flat.add(boost).round();
-        zone.ds_flat_edge = device;
-        zone
     }
 }
 
 impl Zones {
+    #[tactic(auto, unfolding(crate::specs::Zones::greatest_from))]
     pub(crate) fn none() -> Zones
         ensures { result ≡ no_zones }
     {
@@ -177,17 +184,15 @@ impl Zones {
         ensures { result ≡ read_in other self (take n blues.pairs) }
     {
         let mut zones = self;
-        for i in 0..n {
-            let pair = blues.pairs[i];
+        for &pair in &blues.pairs[..n] {
             let height = pair.height();
-            if height.less(Fixed::ZERO) {
+            if height < Fixed::ZERO {
                 continue;
             }
             let at = zones.count;
             zones.list[at] = BlueZone::new(pair, kept_side(other, at));
             zones.count = at + 1;
-            let greatest = zones.greatest.max(height);
-            zones.greatest = greatest;
+            zones.greatest = zones.greatest.max(height);
         }
         zones
     }
@@ -195,33 +200,19 @@ impl Zones {
 
 impl Nearest {
     // From `build_zones`: a family edge that counts and is nearer takes the place.
+    #[tactic(auto, unfolding(crate::specs::Zones::nearer))]
     pub(crate) fn with(self, flat: Fixed, limit: Fixed, edge: Fixed) -> Nearest
         ensures { result ≡ nearer flat limit self edge }
     {
         let diff = flat.sub(edge).abs();
-        if !diff.less(self.diff) {
-            return self;
+        if diff < self.diff && diff < limit {
+            return Nearest { edge, diff };
         }
-        if !diff.less(limit) {
-            return self;
-        }
-        Nearest { edge, diff }
+        self
     }
 }
 
 impl Blues {
-    // The edge of pair i that a family gives: the top for bottom zones, the bottom for top zones.
-    pub(crate) fn edge(self, i: usize, side: Side) -> Fixed
-        requires { i < max_blues }
-        ensures { result ≡ family_edge side (get_or self.pairs i no_blue) }
-    {
-        let pair = self.pairs[i];
-        match side {
-            Side::Bottom => pair.top,
-            Side::Top => pair.bottom,
-        }
-    }
-
     // From `build_zones`: the family edge nearest to a flat edge, or that flat edge, and how far it
     // is. For top zones the first pair is passed over.
     pub(crate) fn nearest(self, flat: Fixed, limit: Fixed, side: Side) -> Nearest
@@ -232,13 +223,11 @@ impl Blues {
             edge: flat,
             diff: Fixed::MAX,
         };
-        let mut i = first_for(side);
-        while i < count {
-            if near.diff.same(Fixed::ZERO) {
+        for pair in &self.pairs[least(first_for(side), count)..count] {
+            if near.diff == Fixed::ZERO {
                 return near;
             }
-            near = near.with(flat, limit, self.edge(i, side));
-            i += 1;
+            near = near.with(flat, limit, pair.edge(side));
         }
         near
     }
@@ -260,11 +249,9 @@ fn first_for(side: Side) -> usize
 fn kept_side(other: bool, n: usize) -> Side
     ensures { result ≡ kept_side other n }
 {
-    if other {
-        return Side::Bottom;
+    if other || n == 0 {
+        Side::Bottom
+    } else {
+        Side::Top
     }
-    if n == 0 {
-        return Side::Bottom;
-    }
-    Side::Top
 }

@@ -11,15 +11,8 @@ use crate::state::{Gauge, HintState};
 use fixed::{Fixed, least};
 use stems::Hint;
 
-// The zone that holds one of the edges, if there is one.
-#[derive(Clone, Copy)]
-pub enum Held {
-    By(BlueZone),
-    Free,
-}
-
 // A stem's edges after capture, and whether they were captured, or locked before it.
-#[derive(Clone, Copy)]
+#[derive(Clone, Copy, Debug, PartialEq, Eq)]
 pub struct Captured {
     pub captured: bool,
     pub bottom: Hint,
@@ -30,30 +23,22 @@ impl BlueZone {
     pub(crate) fn within(self, fuzz: Fixed, height: Fixed) -> bool
         ensures { result ≡ within fuzz self height }
     {
-        let low = self.cs_bottom_edge.sub(fuzz);
-        if !low.at_most(height) {
-            return false;
-        }
-        height.at_most(self.cs_top_edge.add(fuzz))
+        self.cs_bottom_edge.sub(fuzz) <= height && height <= self.cs_top_edge.add(fuzz)
     }
 
+    #[tactic(auto, unfolding(crate::specs::Capture::holds))]
     pub(crate) fn holds(self, fuzz: Fixed, bottom: Hint, top: Hint) -> bool
         ensures { result ≡ holds fuzz bottom top self }
     {
         if self.is_bottom {
-            if !bottom.is_bottom() {
-                return false;
-            }
-            return self.within(fuzz, bottom.cs_coord);
+            return bottom.is_bottom() && self.within(fuzz, bottom.cs_coord);
         }
-        if !top.is_top() {
-            return false;
-        }
-        self.within(fuzz, top.cs_coord)
+        top.is_top() && self.within(fuzz, top.cs_coord)
     }
 }
 
 // A valid edge moved and locked.
+#[tactic(auto, unfolding(crate::specs::Capture::lifted))]
 fn lift(edge: Hint, by: Fixed) -> Hint
     ensures { result ≡ lifted edge by }
 {
@@ -64,24 +49,29 @@ fn lift(edge: Hint, by: Fixed) -> Hint
 }
 
 // The first of so many zones that holds one of the edges.
-fn holder(zones: &[i32; ZONE_NUMBERS], count: usize, fuzz: Fixed, bottom: Hint, top: Hint) -> Held
+fn holder(
+    zones: &[i32; ZONE_NUMBERS],
+    count: usize,
+    fuzz: Fixed,
+    bottom: Hint,
+    top: Hint,
+) -> Option<BlueZone>
     requires { count ≤ max_zones }
     ensures { result ≡ first_holding fuzz bottom top (take count (zones_in zones.now)) }
 {
-    let mut i: usize = 0;
-    while i < count {
+    for i in 0..count {
         let zone = zone_at(zones, i);
         if zone.holds(fuzz, bottom, top) {
-            return Held::By(zone);
+            return Some(zone);
         }
-        i += 1;
     }
-    Held::Free
+    None
 }
 
 impl Gauge {
     // From `capture`: where a bottom edge goes in a bottom zone. An overshoot that is kept and deep
     // enough shows by a whole pixel at least.
+    #[tactic(auto, unfolding(crate::specs::Capture::bottom_goal))]
     fn bottom_goal(self, zone: BlueZone, edge: Hint) -> Fixed
         ensures { result ≡ bottom_goal (state_by self []) zone edge }
     {
@@ -91,13 +81,15 @@ impl Gauge {
         }
         let rounded = edge.ds_coord.round();
         let depth = zone.cs_top_edge.sub(edge.cs_coord);
-        if self.blue_shift.at_most(depth) {
+        if self.blue_shift <= depth {
             return rounded.min(flat.sub(Fixed::ONE));
         }
         rounded
     }
 
-    // From `capture`: where a top edge goes in a top zone, likewise.
+    // From `capture`: where a top edge goes in a top zone, likewise. It stands beside its mirror image, as
+    // the definitions `bottom_goal` and `top_goal` do, since each step turns round with the side.
+    #[tactic(auto, unfolding(crate::specs::Capture::top_goal))]
     fn top_goal(self, zone: BlueZone, edge: Hint) -> Fixed
         ensures { result ≡ top_goal (state_by self []) zone edge }
     {
@@ -107,12 +99,13 @@ impl Gauge {
         }
         let rounded = edge.ds_coord.round();
         let height = edge.cs_coord.sub(zone.cs_bottom_edge);
-        if self.blue_shift.at_most(height) {
+        if self.blue_shift <= height {
             return rounded.max(flat.add(Fixed::ONE));
         }
         rounded
     }
 
+    #[tactic(auto, unfolding(crate::specs::Capture::capture_move))]
     fn move_by(self, zone: BlueZone, bottom: Hint, top: Hint) -> Fixed
         ensures { result ≡ capture_move (state_by self []) zone bottom top }
     {
@@ -127,9 +120,8 @@ impl Gauge {
         ensures { result ≡ capture_of (state_in self zones.now) bottom top }
     {
         let count = least(self.zone_count, MAX_BLUE_ZONES);
-        let held = holder(zones, count, self.blue_fuzz, bottom, top);
-        match held {
-            Held::By(zone) => {
+        match holder(zones, count, self.blue_fuzz, bottom, top) {
+            Some(zone) => {
                 let by = self.move_by(zone, bottom, top);
                 Captured {
                     captured: true,
@@ -137,7 +129,7 @@ impl Gauge {
                     top: lift(top, by),
                 }
             }
-            Held::Free => Captured {
+            None => Captured {
                 captured: false,
                 bottom,
                 top,

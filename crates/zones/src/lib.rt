@@ -9,6 +9,6 @@ mod state;
 pub use blues::{
     Blue, BlueZone, Blues, MAX_BLUE_ZONES, MAX_BLUES, MAX_OTHER_BLUES, Nearest, Zones,
 };
-pub use capture::{Captured, Held};
+pub use capture::Captured;
 pub use numbers::ZONE_NUMBERS;
 pub use state::{Gauge, HintParams, HintState};

@@ -1,13 +1,13 @@
 // Zones as numbers in a list that is lent: 60, 12 each of: 1.0 if it is a bottom zone, bottom edge, top
 // edge, flat edge, and flat edge on the device. Only this file and its definitions know how they lie.
-ghost use Rattle.std.specs.Prelude.{◌≡◌, ◌<◌, length, set};
+ghost use Rattle.std.specs.Prelude.{◌≡◌, ◌<◌, length};
 ghost use Rattle.zones.specs.Zones.{max_zones};
 ghost use Rattle.zones.specs.Numbers.{zone_in, set_zone, gauge_of, ListedZones};
 
-use crate::blues::{BlueZone, MAX_BLUE_ZONES};
+use crate::blues::BlueZone;
 use crate::state::{Gauge, HintState};
 use fixed::Fixed;
-use stems::mark_if;
+use stems::{mark_if, number_at, put_number};
 
 // How many numbers zones are.
 pub const ZONE_NUMBERS: usize = 60;
@@ -22,34 +22,22 @@ const FLAT_EDGES: usize = 36;
 const DEVICE_FLATS: usize = 48;
 
 // The zone at a place.
+#[tactic(auto, unfolding(crate::specs::Numbers::zone_in))]
 pub(crate) fn zone_at(zones: &[i32; ZONE_NUMBERS], i: usize) -> BlueZone
     requires { i < max_zones }
     ensures { result ≡ zone_in zones.now i }
 {
-    let mark = zones[i];
-    let bottom = zones[BOTTOM_EDGES + i];
-    let top = zones[TOP_EDGES + i];
-    let flat = zones[FLAT_EDGES + i];
-    let device = zones[DEVICE_FLATS + i];
     BlueZone {
-        is_bottom: Fixed::ZERO.less(Fixed { bits: mark }),
-        cs_bottom_edge: Fixed { bits: bottom },
-        cs_top_edge: Fixed { bits: top },
-        cs_flat_edge: Fixed { bits: flat },
-        ds_flat_edge: Fixed { bits: device },
+        is_bottom: Fixed::ZERO < number_at(zones, i),
+        cs_bottom_edge: number_at(zones, BOTTOM_EDGES + i),
+        cs_top_edge: number_at(zones, TOP_EDGES + i),
+        cs_flat_edge: number_at(zones, FLAT_EDGES + i),
+        ds_flat_edge: number_at(zones, DEVICE_FLATS + i),
     }
 }
 
-// A number of a zone, where it lies.
-fn put_number(zones: &mut [i32; ZONE_NUMBERS], at: usize, value: Fixed)
-    requires { at < 60 }
-    ensures { zones.new ≡ set zones.old at value.bits }
-{
-    let bits = value.bits;
-    zones[at] = bits;
-}
-
 // A zone, at a place.
+#[tactic(auto, unfolding(crate::specs::Numbers::set_zone))]
 fn put_zone(zones: &mut [i32; ZONE_NUMBERS], i: usize, zone: BlueZone)
     requires { i < max_zones }
     ensures { zones.new ≡ set_zone zones.old i zone }
@@ -66,19 +54,14 @@ impl HintState {
     pub fn gauge(self) -> Gauge
         ensures { result ≡ gauge_of self }
     {
-        let scale = self.scale;
-        let blue_scale = self.blue_scale;
-        let blue_shift = self.blue_shift;
-        let blue_fuzz = self.blue_fuzz;
-        let boost = self.boost;
         Gauge {
-            scale,
-            blue_scale,
-            blue_shift,
-            blue_fuzz,
+            scale: self.scale,
+            blue_scale: self.blue_scale,
+            blue_shift: self.blue_shift,
+            blue_fuzz: self.blue_fuzz,
             suppress_overshoot: self.suppress_overshoot,
             do_em_box_hints: self.do_em_box_hints,
-            boost,
+            boost: self.boost,
             zone_count: self.zone_count,
         }
     }
@@ -88,9 +71,8 @@ impl HintState {
         requires { length zones.old ≡ 60 }
         ensures { ListedZones self zones.new }
     {
-        for i in 0..MAX_BLUE_ZONES {
-            let zone = self.zones[i];
-            put_zone(zones, i, zone);
+        for (i, zone) in self.zones.iter().enumerate() {
+            put_zone(zones, i, *zone);
         }
     }
 }

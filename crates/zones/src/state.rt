@@ -6,7 +6,7 @@ ghost use Rattle.zones.specs.State.{counts_fit, em_box, kept_of, clamped_scale, 
 use crate::blues::{BlueZone, Blues, MAX_BLUE_ZONES, MAX_BLUES, MAX_OTHER_BLUES, Zones};
 use fixed::{Fixed, least};
 
-#[derive(Clone, Copy)]
+#[derive(Clone, Copy, Debug, PartialEq, Eq)]
 pub struct HintParams {
     pub blue_scale: Fixed,
     pub blue_shift: Fixed,
@@ -18,7 +18,7 @@ pub struct HintParams {
     pub family_other_blues: Blues,
 }
 
-#[derive(Clone, Copy)]
+#[derive(Clone, Copy, Debug, PartialEq, Eq)]
 pub struct HintState {
     pub scale: Fixed,
     pub blue_scale: Fixed,
@@ -32,7 +32,7 @@ pub struct HintState {
 }
 
 // A state's numbers without its zones, which a list holds beside them.
-#[derive(Clone, Copy)]
+#[derive(Clone, Copy, Debug, PartialEq, Eq)]
 pub struct Gauge {
     pub scale: Fixed,
     pub blue_scale: Fixed,
@@ -58,45 +58,27 @@ const MOST_BOOST: Fixed = Fixed { bits: 0x7fff };
 
 impl HintParams {
     // Every list has at most seven pairs.
+    #[tactic(auto, unfolding(crate::specs::State::counts_fit))]
     pub fn counts_fit(self) -> bool
         ensures { result ≡ counts_fit self }
     {
-        let blues = self.blues;
-        let others = self.other_blues;
-        let family = self.family_blues;
-        let family_others = self.family_other_blues;
-        if MAX_BLUES < blues.count {
-            return false;
-        }
-        if MAX_BLUES < others.count {
-            return false;
-        }
-        if MAX_BLUES < family.count {
-            return false;
-        }
-        family_others.count <= MAX_BLUES
+        self.blues.count <= MAX_BLUES
+            && self.other_blues.count <= MAX_BLUES
+            && self.family_blues.count <= MAX_BLUES
+            && self.family_other_blues.count <= MAX_BLUES
     }
 
     // From `build_zones`: the glyph is fitted to the em box and not to zones.
+    #[tactic(auto, unfolding(crate::specs::State::em_box))]
     pub(crate) fn em_box(self) -> bool
         ensures { result ≡ em_box self }
     {
-        if self.language_group != 1 {
-            return false;
-        }
         let blues = self.blues;
-        if blues.count == 0 {
-            return true;
-        }
-        if blues.count != 2 {
-            return false;
-        }
-        let low = blues.pairs[0];
-        let high = blues.pairs[1];
-        if !low.wholly_below(ICF_BOTTOM) {
-            return false;
-        }
-        high.wholly_above(ICF_TOP)
+        self.language_group == 1
+            && (blues.count == 0
+                || blues.count == 2
+                    && blues.pairs[0].wholly_below(ICF_BOTTOM)
+                    && blues.pairs[1].wholly_above(ICF_TOP))
     }
 
     // From `build_zones`: the zones kept of the blues and of the first five other blues.
@@ -105,34 +87,33 @@ impl HintParams {
     {
         let blues = self.blues;
         let others = self.other_blues;
-        let zones = Zones::none().read(blues, least(blues.count, MAX_BLUES), false);
-        if MAX_OTHER_BLUES < others.count {
-            return zones.read(others, MAX_OTHER_BLUES, true);
-        }
-        zones.read(others, others.count, true)
+        Zones::none()
+            .read(blues, least(blues.count, MAX_BLUES), false)
+            .read(others, least(others.count, MAX_OTHER_BLUES), true)
     }
 }
 
 // From `build_zones`: no greater than one pixel for the highest zone.
+#[tactic(auto, unfolding(crate::specs::State::clamped_scale))]
 fn clamped(blue_scale: Fixed, greatest: Fixed) -> Fixed
     ensures { result ≡ clamped_scale blue_scale greatest }
 {
-    if !Fixed::ZERO.less(greatest) {
-        return blue_scale;
-    }
-    let most = Fixed::ONE.div(greatest);
-    if most.less(blue_scale) {
-        return most;
+    if Fixed::ZERO < greatest {
+        let most = Fixed::ONE.div(greatest);
+        if most < blue_scale {
+            return most;
+        }
     }
     blue_scale
 }
 
 // From `build_zones`: how far flat edges are pushed out where overshoot is suppressed.
+#[tactic(auto, unfolding(crate::specs::State::boost_of))]
 fn boost_at(scale: Fixed, blue_scale: Fixed) -> Fixed
     requires { pos 0 <ℤ scale.bits }
     ensures { result ≡ boost_of scale blue_scale }
 {
-    if scale.less(blue_scale) {
+    if scale < blue_scale {
         return FULL_BOOST
             .sub(FULL_BOOST.mul_div(scale, blue_scale))
             .min(MOST_BOOST);
@@ -146,15 +127,12 @@ impl HintState {
         requires { pos 0 <ℤ scale.bits }
         ensures { result ≡ state_of params scale }
     {
-        let blue_scale = params.blue_scale;
-        let blue_shift = params.blue_shift;
-        let blue_fuzz = params.blue_fuzz;
         let none = BlueZone::none();
         let mut state = HintState {
             scale,
-            blue_scale,
-            blue_shift,
-            blue_fuzz,
+            blue_scale: params.blue_scale,
+            blue_shift: params.blue_shift,
+            blue_fuzz: params.blue_fuzz,
             suppress_overshoot: false,
             do_em_box_hints: params.em_box(),
             boost: Fixed::ZERO,
@@ -165,18 +143,17 @@ impl HintState {
             return state;
         }
         let kept = params.kept();
-        let most = clamped(blue_scale, kept.greatest);
+        let most = clamped(params.blue_scale, kept.greatest);
         let boost = boost_at(scale, most);
         state.blue_scale = most;
-        state.suppress_overshoot = scale.less(most);
+        state.suppress_overshoot = scale < most;
         state.boost = boost;
         state.zone_count = kept.count;
         let others = params.family_other_blues;
         let blues = params.family_blues;
         let limit = Fixed::ONE.div(scale);
         // Every flat edge goes to the family's nearest, then to the device.
-        for i in 0..kept.count {
-            let zone = kept.list[i];
+        for (i, zone) in kept.list[..kept.count].iter().enumerate() {
             state.zones[i] = zone.by_family(others, blues, limit).on_device(scale, boost);
         }
         state

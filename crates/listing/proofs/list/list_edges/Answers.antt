@@ -8,8 +8,8 @@ use Rattle.listing.proofs.Answers.{Stand, listed-fits, listed-stand}
 use Rattle.listing.proofs.Written.{written, written_over}
 use Rattle.listing.proofs.list.list_edges.Goals as goal
 
-pub record_at-record-requires : goal.record_at-record-requires
-record_at-record-requires c =
+pub record_at-requires : goal.record_at-requires
+record_at-requires c =
     let m = c.args.map in
     (listed-stand m (length c.args.list.now) (held-long m c.well_formed.0.1.1.0.1.0.1) c.loop-i.i (omega arith)).0
 

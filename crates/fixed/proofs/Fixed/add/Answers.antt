@@ -1,0 +1,13 @@
+-- `Fixed::add` meets its contract: the machine's wrapping sum is the exact one's low 32 bits. Assumes
+-- nothing.
+use Rattle.std.proofs.Common.{ap, ◌∙◌, w32, rules}
+use Rattle.std.proofs.lemmas.Int.{wrapping_add_is}
+use Rattle.fixed.specs.Fixed.{from_bits, add_f}
+use Rattle.fixed.proofs.Bits.{wrap-is}
+use Rattle.fixed.proofs.Fixed.add.Goals as goal
+
+pub returns : goal.returns
+unfolding add_f
+returns c =
+    let e = wrapping_add_is w32 c.args.self.bits c.args.b.bits (search rules) (search rules) in
+    ap from_bits (e ∙ wrap-is _)

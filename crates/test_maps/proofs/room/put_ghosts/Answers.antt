@@ -1,0 +1,9 @@
+-- Lists of a map's length are lent with no edge in them. Assumes nothing.
+use Rattle.hintmap.proofs.Lent.{none_lent}
+use Rattle.test_maps.proofs.room.put_ghosts.Goals as goal
+
+pub loop-i-init : goal.loop-i-init
+loop-i-init c = none_lent _ _ c.requires
+
+pub loop-i-preserved : goal.loop-i-preserved
+loop-i-preserved c = c.insert_edges-len.ensures.lent

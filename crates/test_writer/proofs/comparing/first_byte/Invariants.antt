@@ -1,0 +1,12 @@
+-- The search from `i` on finds what the search from 0 on finds. Assumes nothing.
+use Rattle.std.proofs.Common.{◌≡◌, ◌-◌, ◌≤◌, length}
+use Rattle.test_tables.specs.Differing.{first_from, first_different}
+use Rattle.test_writer.specs.Comparing.{same_byte}
+use Rattle.test_writer.proofs.comparing.first_byte.Given as goal
+
+abbrev pub invariant-loop-i : goal.invariant-loop-i
+invariant-loop-i l =
+    (l.i-end ≡ length l.left)
+    × ((l.i ≤ l.i-end)
+    × (first_from (same_byte l.left l.stored) l.i (length l.left - l.i)
+    ≡ first_different (same_byte l.left l.stored) (length l.left)))

@@ -1,0 +1,20 @@
+-- `HintParams::kept` meets its contract: the blues are read into no zones, then at most five other
+-- blues. Assumes nothing.
+use Rattle.std.proofs.Common.{◌≡◌, ◌≤◌, length, arith, rules}
+use Rattle.zones.proofs.Keep.{first-count, kept-is}
+use Rattle.zones.proofs.state.HintParams.kept.Goals as goal
+
+pub read-requires-2 : goal.read-requires-2
+read-requires-2 c =
+    let blues = c.args.self.blues in
+    let seven : length blues.pairs ≡ 7 = search rules in
+    let some : c.read.result.count ≤ 7 =
+    rw (c.read.ensures, c.none.ensures, c.least.ensures) (first-count blues c.args.self.other_blues seven)
+    in (omega arith, omega arith)
+
+pub returns : goal.returns
+returns c =
+    let blues = c.args.self.blues in
+    let seven : length blues.pairs ≡ 7 = search rules in
+    rw (c.read-2.ensures, c.read.ensures, c.none.ensures, c.least.ensures, c.least-2.ensures)
+    (kept-is blues c.args.self.other_blues seven)
