@@ -10,12 +10,12 @@ use fixed::Fixed;
 const FRACTION_DIGITS: usize = 16;
 
 // Puts some text at a place of some bytes; answers where it ends.
-pub fn put_text(out: &mut [u8], at: usize, text: &str) -> usize
+pub fn put_text(out: &mut [u8], at: usize, text: &[u8]) -> usize
     requires { at + length text.now ≤ length out.old }
     ensures { Put text.now at out.old result out.new }
 {
     let end = at + text.len();
-    out[at..end].copy_from_slice(text.as_bytes());
+    out[at..end].copy_from_slice(text);
     end
 }
 

@@ -3,8 +3,8 @@ ghost use Rattle.std.specs.Prelude.{◌++◌, ◌+◌, ◌≤◌, ◌<◌, lengt
 ghost use Rattle.decimal.specs.Decimal.{Put, number_text};
 ghost use Rattle.edges.specs.Page.{summary_line, refusal_line};
 
-use crate::line::put_end;
-use decimal::{put_number, put_text};
+use crate::line::{put_end, put_text};
+use decimal::put_number;
 use listing::Summary;
 use words::Refusal;
 

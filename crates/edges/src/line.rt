@@ -3,9 +3,17 @@ ghost use Rattle.std.specs.Prelude.{◌+◌, ◌≤◌, length};
 ghost use Rattle.decimal.specs.Decimal.{Put};
 ghost use Rattle.edges.specs.Page.{kind_text, stem_text, end_text, line_of};
 
-use decimal::{put_decimal, put_number, put_text};
+use decimal::{put_decimal, put_number};
 use listing::{EdgeRecord, SYNTHETIC};
 use stems::Kind;
+
+// Puts some text.
+pub(crate) fn put_text(out: &mut [u8], at: usize, text: &str) -> usize
+    requires { at + length text.now ≤ length out.old }
+    ensures { Put text.now at out.old result out.new }
+{
+    decimal::put_text(out, at, text.as_bytes())
+}
 
 // Puts the name of a kind.
 fn put_kind(out: &mut [u8], at: usize, kind: Kind) -> usize

@@ -5,8 +5,7 @@ ghost use Rattle.edges.specs.Page.{map_text, page_of, asked_page};
 
 use crate::argument::{is_number, number_in};
 use crate::counts::{put_refusal, put_summary};
-use crate::line::put_line;
-use decimal::put_text;
+use crate::line::{put_line, put_text};
 use hintmap::HintMap;
 use listing::{EdgeRecord, summarize};
 use script::{check_script, map_after};

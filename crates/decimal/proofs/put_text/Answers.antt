@@ -14,6 +14,5 @@ part b at xs =
 pub returns : goal.returns
 returns c = record {
   ends = refl;
-  memory = rw (c.copy_from_slice.ensures.after, c.as_bytes.ensures.value)
-      (part c.args.out.now c.args.at c.args.text.now);
+  memory = rw c.copy_from_slice.ensures.after (part c.args.out.now c.args.at c.args.text.now);
 }
