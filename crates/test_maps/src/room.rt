@@ -17,7 +17,7 @@ pub(crate) fn run(rt: &impl Print) -> io::Result<()> {
     let few = differs(94, pair, 96) + differs(94, single, 95);
     let one_left = differs(95, pair, 95) + differs(95, single, 96);
     let full = differs(96, pair, 96) + differs(96, single, 96);
-    test_tables::counts(rt, "room for edges", 6, few + one_left + full)
+    test_tables::counts(rt, b"room for edges", 6, few + one_left + full)
 }
 
 // 1 if a map of so many edges has another number of them than expected once the stem comes, or else

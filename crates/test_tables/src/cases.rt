@@ -32,11 +32,20 @@ pub fn case_cut(rt: &impl Print, i: usize) -> io::Result<()> {
 }
 
 // What of a case first differs from what is stored.
-pub fn case_differs<D: Display>(rt: &impl Print, i: usize, what: &D) -> io::Result<()> {
-    println!(rt; "case {i}: {what} differs")
+pub fn case_differs(rt: &impl Print, i: usize, what: &[u8]) -> io::Result<()> {
+    print!(rt; "case {i}: ")?;
+    rt.write_all(what)?;
+    println!(rt; " differs")
 }
 
 // The same of one of many, by its number.
-pub fn case_differs_at(rt: &impl Print, i: usize, what: &str, at: usize) -> io::Result<()> {
-    println!(rt; "case {i}: {what}{at} differs")
+pub fn case_differs_at(rt: &impl Print, i: usize, what: &[u8], at: usize) -> io::Result<()> {
+    print!(rt; "case {i}: ")?;
+    rt.write_all(what)?;
+    println!(rt; "{at} differs")
+}
+
+// The same of what says itself where it differs.
+pub(crate) fn case_differs_by<D: Display>(rt: &impl Print, i: usize, what: &D) -> io::Result<()> {
+    println!(rt; "case {i}: {what} differs")
 }

@@ -23,11 +23,11 @@ pub fn run_table<R: Read, F: Fn(&[i32]) -> bool>(
     let mut differ = 0;
     for i in 0..count {
         if !next_agrees(input, &agrees)? {
-            row_differs(rt, name, i)?;
+            row_differs(rt, name.as_bytes(), i)?;
             differ += 1;
         }
     }
-    counts(rt, name, count, differ)
+    counts(rt, name.as_bytes(), count, differ)
 }
 
 // The input's next row is there, is not too long, and agrees.
@@ -58,5 +58,5 @@ pub fn run_cases<R: Read, D: Display + Drop, F: FnMut(&mut R) -> io::Result<Opti
         };
         tally = tally.with(rt, i, difference)?;
     }
-    counts(rt, name, tally.run, tally.differ)
+    counts(rt, name.as_bytes(), tally.run, tally.differ)
 }

@@ -2,7 +2,7 @@
 ghost use Rattle.std.specs.Prelude.{◌≡◌, ◌*◌, ◌≤◌, length};
 ghost use Rattle.test_tables.specs.Verdicts.{verdict_on};
 
-use crate::cases::case_differs;
+use crate::cases::case_differs_by;
 use crate::differing::first_word;
 use std::fmt::Display;
 use std::num::wrapping_add_usize;
@@ -65,7 +65,7 @@ impl Tally {
         tally.run = wrapping_add_usize(tally.run, 1);
         if let Some(what) = difference {
             if tally.differ < MOST_SAID {
-                case_differs(rt, i, &what)?;
+                case_differs_by(rt, i, &what)?;
             }
             tally.differ = wrapping_add_usize(tally.differ, 1);
         }
