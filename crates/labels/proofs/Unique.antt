@@ -7,6 +7,10 @@ use borrow.Fn.World.{ArgsD, ResD}
 use contract.Lifetimes.{Lfts}
 use denote.Triple.Clauses.{AtExit}
 use Rattle.labels.specs.Answers.{LabelAnswer}
+use Rattle.labels.specs.declared.label_answer.LabelRefusal.{LabelRefusal}
+use Rattle.labels.proofs.label_answer.LabelRefusal.code.Reads as refusal_code-reads
+use Rattle.labels.proofs.label_answer.LabelRefusal.glyph.Reads as refusal_glyph-reads
+use Rattle.labels.proofs.label_answer.LabelRefusal.place.Reads as refusal_place-reads
 use Rattle.labels.proofs.label_answer.code.Reads as code_Reads
 use Rattle.labels.proofs.label_answer.glyph.Reads as glyph-reads
 use Rattle.labels.proofs.label_answer.place.Reads as place-reads
@@ -27,6 +31,19 @@ module _ (κs : Lfts 0) (a : LabelAnswer) (r r' : ℕ) where
 
   pub written-unique : written-reads.Post κs (a, tt) r (a, tt) → written-reads.Post κs (a, tt) r' (a, tt) → r ≡ r'
   written-unique p q = p ∙ sym q
+
+module _ (κs : Lfts 0) (a : LabelRefusal) (r r' : ℕ) where
+  pub refusal_code-unique : refusal_code-reads.Post κs (a, tt) r (a, tt) →
+      refusal_code-reads.Post κs (a, tt) r' (a, tt) → r ≡ r'
+  refusal_code-unique p q = p ∙ sym q
+
+  pub refusal_glyph-unique : refusal_glyph-reads.Post κs (a, tt) r (a, tt) →
+      refusal_glyph-reads.Post κs (a, tt) r' (a, tt) → r ≡ r'
+  refusal_glyph-unique p q = p ∙ sym q
+
+  pub refusal_place-unique : refusal_place-reads.Post κs (a, tt) r (a, tt) →
+      refusal_place-reads.Post κs (a, tt) r' (a, tt) → r ≡ r'
+  refusal_place-unique p q = p ∙ sym q
 
 module _ (κs : Lfts 4) (a : ArgsD run-labels.signature κs) (r r' : ResD run-labels.signature κs)
     (x x' : AtExit (ended_of 4 run-labels-kinds.ps run-labels-kinds.r) κs) where

@@ -8,6 +8,9 @@ use borrow.Fn.World.{ArgsD, ResD}
 use contract.Lifetimes.{Lfts}
 use denote.Triple.Clauses.{AtExit}
 use Rattle.writer.specs.Refusals.{WriteAnswer}
+use Rattle.writer.specs.declared.write_answer.WriteRefusal.{WriteRefusal}
+use Rattle.writer.proofs.write_answer.WriteRefusal.code.Reads as refusal_code-reads
+use Rattle.writer.proofs.write_answer.WriteRefusal.place.Reads as refusal_place-reads
 use Rattle.writer.proofs.write_answer.code.Reads as code_Reads
 use Rattle.writer.proofs.write_answer.place.Reads as place-reads
 use Rattle.writer.proofs.write_answer.written.Reads as written-reads
@@ -29,6 +32,15 @@ module _ (κs : Lfts 0) (a : WriteAnswer) (r r' : ℕ) where
 
   pub written-unique : written-reads.Post κs (a, tt) r (a, tt) → written-reads.Post κs (a, tt) r' (a, tt) → r ≡ r'
   written-unique p q = p ∙ sym q
+
+module _ (κs : Lfts 0) (a : WriteRefusal) (r r' : ℕ) where
+  pub refusal_code-unique : refusal_code-reads.Post κs (a, tt) r (a, tt) →
+      refusal_code-reads.Post κs (a, tt) r' (a, tt) → r ≡ r'
+  refusal_code-unique p q = p ∙ sym q
+
+  pub refusal_place-unique : refusal_place-reads.Post κs (a, tt) r (a, tt) →
+      refusal_place-reads.Post κs (a, tt) r' (a, tt) → r ≡ r'
+  refusal_place-unique p q = p ∙ sym q
 
 module _ (κs : Lfts 0) (k : ℕ) where
   pub is-mask-unique : (r r' : Bool) → is-mask-reads.Post κs (k, tt) r (k, tt) →
