@@ -117,9 +117,7 @@ impl Fixed {
     pub fn neg(self) -> Fixed
         ensures { result ≡ neg_f self }
     {
-        Fixed {
-            bits: self.bits.wrapping_neg(),
-        }
+        Fixed::ZERO.sub(self)
     }
 
     // The absolute value, wrapping.

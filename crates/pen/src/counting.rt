@@ -43,11 +43,15 @@ impl Trail {
     pub(crate) fn close_count(self) -> usize
         ensures { (result ≡ close_count self.start self.waiting) × (result ≤ 4) }
     {
-        match (self.start, self.waiting) {
-            (None, _) => 0,
-            (Some(from), Some(at)) if at != from => POINT_RECORD + BARE_RECORD,
-            _ => BARE_RECORD,
+        let Some(from) = self.start else {
+            return 0;
+        };
+        if let Some(at) = self.waiting {
+            if at != from {
+                return POINT_RECORD + BARE_RECORD;
+            }
         }
+        BARE_RECORD
     }
 
     // A call's words, and the trail behind it.
