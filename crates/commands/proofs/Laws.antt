@@ -8,9 +8,10 @@ use lib.ListN.{length}
 use lib.Dec.{ltb, leb}
 use borrow.Author.Tests.{lt-ltb, le-ltb, ltb-true, ltb-false}
 use Rattle.std.specs.Prelude.{Ok}
-use Rattle.words.specs.Rows.{Row}
+use Rattle.std.specs.Result.{result_and}
+use Rattle.words.specs.Rows.{Row, first_or}
 use Rattle.words.specs.Answers.{Answer, first_of, number_of}
-use Rattle.words.proofs.Rows.{Refusing, none-holds, found, onward}
+use Rattle.words.proofs.Rows.{Refusing, none-holds, found, onward, in-turn}
 use Rattle.words.proofs.Answers.{refusal, is_ok, both_ok}
 use Rattle.commands.specs.declared.reading.Command.{Command}
 use Rattle.commands.specs.declared.reading.Command.TheVariants.{Mark}
@@ -143,6 +144,23 @@ module _ (b : ℕ) (w : ℕ → ℕ) (n bytes i : ℕ) (h : i < n) where
   fault-behind f g k =
       ap first_of (rows-first b w n bytes i h) ∙
       onward (Ok tt) _ _ (faults-refusing bytes (b + i) (read_at w n i).command) (sym g ∙ is_ok f k)
+
+-- a command's fault, and behind it those of the commands behind it
+pub faults_in_turn : (b : ℕ) (w : ℕ → ℕ) (n bytes i : ℕ) → i < n →
+    first_of (command_rows bytes (commands_from (n - i) b w n i)) ≡
+    result_and (first_of (fault_rows bytes (b + i) (read_at w n i).command))
+    (first_of (command_rows bytes (commands_from (n - next_at w i) b w n (next_at w i))))
+faults_in_turn b w n bytes i h =
+    ap first_of (rows-first b w n bytes i h) ∙
+    in-turn tt (Ok tt) (fault_rows bytes (b + i) (read_at w n i).command) _ refl
+
+-- and where no command is left, none
+pub faults_none : (b : ℕ) (w : ℕ → ℕ) (n bytes i : ℕ) → n ≤ i →
+    first_of (command_rows bytes (commands_from (n - i) b w n i)) ≡ Ok tt
+unfolding first_or
+faults_none b w n bytes i h = ap first_of (rows_none b w n bytes i h)
+
+pub ruleset tests_in_turn = (from_start, faults_in_turn, faults_none, next-is)
 
 -- a command that is not bad has all its operands, and is not made bad
 pub read-fine : (w : ℕ → ℕ) (n i : ℕ) → is_bad (read_at w n i).command ≡ false →

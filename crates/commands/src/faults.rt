@@ -44,6 +44,7 @@ pub fn fault_in(command: Command, bytes: usize, place: usize) -> Answer
 }
 
 // The first fault among the commands of a part, the first of which is word `first` of the script.
+#[tactic(auto, using(crate::proofs::Laws::tests_in_turn))]
 fn check_part(part: &[u8], first: usize, n: usize, bytes: usize) -> Answer
     requires { (4 * n ≤ length part.now) × ((first ≤ 16384) × ((n ≤ 16384) × (bytes ≤ 65536))) }
     ensures { result ≡ first_of (command_rows bytes (commands_of first (raw_at part.now) n)) }

@@ -1,7 +1,7 @@
 -- Laws of a label run's answer: refusals in their order, and what is left where there is none.
 -- Assumes nothing.
 use mathlib.Core.Path.{◌≡◌, refl, sym, ap, ◌∙◌}
-use mathlib.Core.Bool.{Bool, true, false, cond, not}
+use mathlib.Core.Bool.{Bool, true, false, cond}
 use mathlib.Core.List.{List, [], ◌∷◌, ◌++◌, map}
 use Prim.Native.Nat.{ℕ, zero, suc, ◌+◌, ◌≤◌, ◌<◌}
 use native.Mathlib.Omega.{arith}
@@ -9,13 +9,12 @@ use lib.Dec.{eqb, ltb}
 use lib.IntN.{ℤ, pos}
 use lib.ListN.{length}
 use lib.Signed.{◌<ℤ◌}
-use borrow.Author.Tests.{eq-eqb, ne_eqb, ltb-false}
+use borrow.Author.Tests.{ltb-false}
 use Rattle.fixed.specs.declared.Fixed.{Fixed}
 use Rattle.fixed.specs.Fixed.{from_bits, less_f}
 use Rattle.fixed.proofs.Order.{heights}
 use Rattle.zones.specs.declared.state.HintParams.{HintParams}
 use Rattle.zones.specs.State.{state_of}
-use Rattle.pen.specs.Records.{written}
 use Rattle.words.specs.Rows.{Row, first_or}
 use Rattle.words.specs.Answers.{Answer, number_of, place_of, refuses}
 use Rattle.words.proofs.Rows.{Refusing, none-holds, found-else, onward-else}
@@ -23,12 +22,13 @@ use Rattle.words.proofs.Answers.{not-refused}
 use Rattle.labels.specs.declared.label_answer.LabelRefusal.{LabelRefusal}
 use Rattle.labels.specs.declared.label_answer.LabelRefusal.TheVariants.{RunCount, BadScale, BadBlues}
 use Rattle.labels.specs.declared.label_answer.LabelRefusal.TheVariants.{BadCommand, BadMask, NoRoom}
-use Rattle.labels.specs.Answers.{LabelAnswer, label_number, in_glyph}
+use Rattle.labels.specs.Answers.{LabelAnswer, label_number, label_refuses, in_glyph}
 use Rattle.std.proofs.Common.{Ok, Err}
-use Rattle.labels.specs.Glyphs.{Glyph, miscounted, fault_of}
-use Rattle.labels.specs.Labels.{Label, glyphs_in, records_in, header_of, label_words, open_rows, glyph_rows, room_rows}
-use Rattle.labels.specs.Labels.{room_in, label_rows, label_answer, output_by, labels_of, Labelled}
-use Rattle.labels.specs.Measured.{size_of, sum_from, Faultless, measured_of}
+use Rattle.std.specs.Result.{result_and}
+use Rattle.labels.specs.Glyphs.{Glyph, glyphs_of, miscounted, fault_of}
+use Rattle.labels.specs.Labels.{Label, glyphs_in, records_in, header_of, open_rows, glyph_rows, room_rows}
+use Rattle.labels.specs.Labels.{room_in, label_rows, label_answer}
+use Rattle.labels.specs.Measured.{size_of, sum_from, Faultless, measured_of, Fillable}
 use Rattle.labels.proofs.Filled.{result-is, sizes-are}
 
 -- ---- scale and counts
@@ -123,6 +123,35 @@ module _ (l : Label) (room : ℕ) where
         onward-else (Ok 0) ok opens (glyph_rows 1 gs ++ room_rows room 0 (header_of (length gs)) (map size_of gs))
         (open-refusing l.scale l.params) o)
 
+-- the tests in turn: the lengths, then scale and counts, then glyphs and room
+pub answered : (l : Label) (room : ℕ) →
+    label_answer l room ≡
+    cond (miscounted l.lengths (length l.commands) (length l.masks)) (Err RunCount)
+    (result_and (first_or (Ok 0) (open_rows l.scale l.params)) (measured_of (glyphs_in l) room))
+answered l room = by (miscounted l.lengths (length l.commands) (length l.masks)) refl
+  where
+    by : (b : Bool) → miscounted l.lengths (length l.commands) (length l.masks) ≡ b →
+        label_answer l room ≡
+        cond b (Err RunCount)
+        (result_and (first_or (Ok 0) (open_rows l.scale l.params)) (measured_of (glyphs_in l) room))
+    by true e = by_count l room e
+    by false e = go (first_or (Ok 0) (open_rows l.scale l.params)) refl
+      where
+        go : (a : LabelAnswer) → first_or (Ok 0) (open_rows l.scale l.params) ≡ a →
+            label_answer l room ≡ result_and a (measured_of (glyphs_in l) room)
+        go (Ok n) f = by-measure l room e (open-fine l.scale l.params (ap label_number f)).0
+        go (Err r) f = by-numbers l room e (sym f) (err-number r)
+
+pub errs-refuse : (r : LabelRefusal) → label_refuses (Err r) ≡ true
+errs-refuse RunCount = refl
+errs-refuse BadScale = refl
+errs-refuse BadBlues = refl
+errs-refuse (BadCommand k p) = refl
+errs-refuse (BadMask k p) = refl
+errs-refuse (NoRoom k) = refl
+
+pub ruleset tests_in_turn = (answered, errs-refuse)
+
 -- ---- what an answer that does not refuse leaves
 -- a fault refuses
 fault-number : (k : ℕ) (a : Answer) → label_number (in_glyph k a) ≡ 0 → ⊥
@@ -181,23 +210,10 @@ measured-fine gs room z =
     let g = glyphs-fine ok 1 gs (room_rows room 0 m ns) z in
     (g.0, (rooms_fine ok room 0 m ns (ap label_number (sym g.1) ∙ z)).0)
 
--- ---- the answer and the output
-module _ (l : Label) (out : List ℤ) where
-  abbrev answer : LabelAnswer
-  answer = label_answer l (room_in out)
-
-  -- a refusal leaves the output
-  pub labelled-nothing : {a : LabelAnswer} → a ≡ answer → 0 < label_number a → Labelled (labels_of l out) a out
-  unfolding labels_of
-  labelled-nothing e h =
-      let n : eqb (label_number answer) 0 ≡ false =
-      ne_eqb (label_number answer) 0 (λ z. absurd (omega (arith, ap label_number e, z, h))) in
-      record { answer = e; memory = sym (ap (λ (b : Bool). output_by (not b) (label_words (records_in l)) out) n) }
-
-  -- and else the result is written over it
-  pub labelled-result : {a : LabelAnswer} {left : List ℤ} → a ≡ answer → label_number a ≡ 0 →
-      left ≡ written (label_words (records_in l)) out → Labelled (labels_of l out) a left
-  unfolding labels_of
-  labelled-result e z m =
-      let n : eqb (label_number answer) 0 ≡ true = eq-eqb (label_number answer) 0 (ap label_number (sym e) ∙ z) in
-      record { answer = e; memory = m ∙ sym (ap (λ (b : Bool). output_by (not b) (label_words (records_in l)) out) n) }
+-- the glyphs can be filled into such an output
+pub fillable : (ls words : List ℤ) (masks : List ℕ) (out : List ℤ) →
+    miscounted ls (length words) (length masks) ≡ false →
+    label_number (measured_of (glyphs_of ls words masks) (room_in out)) ≡ 0 → Fillable ls words masks (length out)
+fillable ls words masks out e z =
+    let f = measured-fine (glyphs_of ls words masks) (room_in out) z in
+    record { counted = e; faultless = f.0; fits = omega (arith, f.1); word = omega (arith, f.1) }

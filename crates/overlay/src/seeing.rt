@@ -6,6 +6,7 @@ use listing::list_words;
 use script::{check_script, map_after};
 
 // Lists the edges of the map that a script has after its first so many commands, as words.
+#[tactic(auto, unfolding(crate::specs::Seen::seen_of))]
 pub fn see_edges(script: &[u8], commands: usize, list: &mut [i32]) -> SeenAnswer
     ensures { Sees (seen_of script.now commands list.old) result list.new }
 {

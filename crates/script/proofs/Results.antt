@@ -1,5 +1,5 @@
 -- Laws of a whole result: each of the ways in which a script can end. Assumes nothing.
-use mathlib.Core.Path.{◌≡◌, sym, ap, ◌∙◌}
+use mathlib.Core.Path.{◌≡◌, refl, sym, ap, ◌∙◌}
 use mathlib.Core.Bool.{Bool, true, false}
 use mathlib.Core.List.{List, [], ◌∷◌, ◌++◌}
 use Prim.Native.Nat.{ℕ, suc, ◌+◌, ◌*◌, ◌≤◌, ◌<◌}
@@ -9,13 +9,13 @@ use lib.IntN.{ℤ}
 use lib.ListN.{length, take, drop, length-drop}
 use lib.Seq.{length-take-le, take-append_seam, drop_at, drop-drop}
 use borrow.Author.Tests.{lt-ltb, le-ltb, eq-eqb, ne_eqb}
-use Rattle.std.specs.Prelude.{Err}
+use Rattle.std.specs.Prelude.{Ok, Err}
 use Rattle.pen.specs.Records.{written}
 use Rattle.words.specs.declared.answer.Refusal.TheVariants.{NoRoom}
 use Rattle.hints.specs.Calls.{new_drawing}
 use Rattle.words.specs.Words.{raw_at, number_at}
 use Rattle.words.specs.Answers.{Answer, first_of, number_of, refuses}
-use Rattle.words.proofs.Answers.{says}
+use Rattle.words.proofs.Answers.{numbered, says}
 use Rattle.commands.proofs.Laws.{at_most}
 use Rattle.run.specs.Room.{Fitted, fitted}
 use Rattle.run.proofs.Bounds.{ten-each, calls-many}
@@ -102,3 +102,20 @@ short s room p =
       calls-many s (4 * raw_at s 6) (commands_in s),
       at_most (raw_at s 4) (raw_at (drop (4 * raw_at s 4) s)) (raw_at s 5),
     )
+
+-- a result by the tests' answer
+abbrev pub tested_by : Answer → List ℕ → List ℤ → Result
+tested_by (Err r) s out = record { answer = Err r; left = out }
+tested_by (Ok tt) s out = result_by false (ltb (length out) 4) s out
+
+pub tested : (s : List ℕ) (out : List ℤ) → script_of s out ≡ tested_by (first_of (check_rows s)) s out
+unfolding script_of
+tested s out = by (first_of (check_rows s)) refl
+  where
+    by : (a : Answer) → first_of (check_rows s) ≡ a →
+        result_by (refuses (first_of (check_rows s))) (ltb (length out) 4) s out ≡ tested_by a s out
+    by (Ok tt) e = ap (λ (a : Answer). result_by (refuses a) (ltb (length out) 4) s out) e
+    by (Err r) e =
+        ap (λ (a : Answer). result_by (refuses a) (ltb (length out) 4) s out) e ∙
+        ap (λ (b : Bool). result_by b (ltb (length out) 4) s out) (refused (Err r) (numbered r)) ∙
+        ap (λ (a : Answer). record { answer = a; left = out }) e

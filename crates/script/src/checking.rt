@@ -8,6 +8,7 @@ use header::{check_header, check_params};
 use words::{Answer, layout, natural};
 
 // The first fault of a script.
+#[tactic(auto, using(crate::proofs::Tests::tests_in_turn))]
 pub fn check_script(script: &[u8]) -> Answer
     ensures { result ≡ first_of (check_rows script.now) }
 {

@@ -56,6 +56,7 @@ fn seal(out: &mut [i32], records: u32, words: u32)
 }
 
 // Runs a script into a lent output.
+#[tactic(auto, using(crate::proofs::Results::tested))]
 pub fn run_script(script: &[u8], out: &mut [i32]) -> Answer
     ensures { Scripted (script_of script.now out.old) result out.new }
 {

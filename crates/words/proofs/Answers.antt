@@ -23,10 +23,6 @@ refusal {a} h e =
     let n : number_of a ≡ 0 = ap number_of e in
     omega arith
 
--- a refusal is not Ok
-pub not_ok : {a : Answer} (r : Refusal) → a ≡ Err r → a ≡ Ok tt → ⊥
-not_ok r e o = cc
-
 -- what the exit of a `?` returns is the answer that it was asked of
 pub passed_on : {a x : Answer} (r : Refusal) → a ≡ Err r → IsErrAnd x (λ (e : Refusal). e ≡ r) → x ≡ a
 passed_on {x = x} r e f =

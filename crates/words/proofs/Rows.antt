@@ -6,6 +6,8 @@ use mathlib.Core.List.{List, [], ◌∷◌, ◌++◌}
 use Prim.Native.Nat.{ℕ, zero, suc, ◌<◌}
 use native.Mathlib.Omega.{arith}
 use lib.ListN.{length, drop}
+use Rattle.std.specs.Prelude.{Result, Ok, Err, is_err, ◌&&◌}
+use Rattle.std.specs.Result.{result_and}
 use Rattle.words.specs.Rows.{Row, first_or, row_at, First}
 
 none_before : (j : ℕ) → j < 0 → ⊥
@@ -122,3 +124,24 @@ module _ {A : Type 0} (ok : A) where
 
   pub onward : (rs qs : List (Row A)) → Refusing rs → first_or ok rs ≡ ok → first_or ok (rs ++ qs) ≡ first_or ok qs
   onward rs qs h e = onward-else ok rs qs h e
+
+-- ---- tests whose answers are results
+module _ {T E : Type 0} where
+  -- every test refuses
+  abbrev pub all_err : List (Row (Result T E)) → Bool
+  all_err [] = true
+  all_err (r ∷ rs) = is_err r.said && all_err rs
+
+  -- tests in two lists: behind Ok of the first list the second gives the answer
+  pub in-turn : (none : T) (ok : Result T E) (rs qs : List (Row (Result T E))) → all_err rs ≡ true →
+      first_or ok (rs ++ qs) ≡ result_and (first_or (Ok none) rs) (first_or ok qs)
+  unfolding first_or
+  in-turn none ok [] qs h = refl
+  in-turn none ok (r ∷ rs) qs h = by r.fault r.said h (λ l. in-turn none ok rs qs l)
+    where
+      by : (b : Bool) (a : Result T E) → (is_err a && all_err rs) ≡ true →
+          (all_err rs ≡ true → first_or ok (rs ++ qs) ≡ result_and (first_or (Ok none) rs) (first_or ok qs)) →
+          cond b a (first_or ok (rs ++ qs)) ≡ result_and (cond b a (first_or (Ok none) rs)) (first_or ok qs)
+      by b (Ok n) l g = absurd (true≢false (sym l))
+      by true (Err e) l g = refl
+      by false (Err e) l g = g l

@@ -3,7 +3,7 @@
 use mathlib.Core.Path.{◌≡◌, refl, sym, ap, ◌∙◌}
 use mathlib.Core.Bool.{Bool, true, false, cond}
 use mathlib.Core.List.{List, [], ◌∷◌, ◌++◌, append-nil}
-use Prim.Native.Nat.{ℕ, zero, suc, ◌+◌, ◌-◌, ◌≤◌, ◌<◌}
+use Prim.Native.Nat.{ℕ, ◌+◌, ◌-◌, ◌≤◌, ◌<◌}
 use native.Mathlib.Omega.{arith}
 use lib.Dec.{ltb}
 use lib.ListN.{length, take, drop, get_or, length-take, length-drop, drop_of_length-le}
@@ -13,13 +13,14 @@ use Rattle.fixed.proofs.Tests.{both_false}
 use Rattle.zones.specs.declared.state.HintParams.{HintParams}
 use Rattle.words.specs.Words.{negative}
 use Rattle.words.specs.Rows.{Row, first_or}
-use Rattle.words.proofs.Rows.{Refusing}
+use Rattle.words.proofs.Rows.{in-turn}
 use Rattle.header.specs.Header.{outside}
 use Rattle.writer.specs.Refusals.{WriteAnswer}
 use Rattle.writer.specs.declared.write_answer.WriteRefusal.{WriteRefusal}
 use Rattle.writer.specs.declared.write_answer.WriteRefusal.TheVariants.{BadScale, BadBlues, BadCommand, BadMask}
 use Rattle.writer.specs.declared.write_answer.WriteRefusal.TheVariants.{ScriptRoom}
 use Rattle.std.proofs.Common.{Ok, Err}
+use Rattle.std.specs.Result.{result_and}
 use Rattle.writer.specs.Pieces.{Piece, pieces_of, piece_words, given_operands, piece_at, bytes_taken}
 use Rattle.writer.specs.Refusals.{write_number, given_rows, bad_piece, too_long, piece_rows, FineParams}
 use Rattle.writer.proofs.Cutting.{piece-at, no_pieces, cut_at}
@@ -164,12 +165,6 @@ err-number ScriptRoom = omega arith
 pub not-fine : (a : WriteAnswer) → 0 < write_number a → a ≡ Ok 0 → ⊥
 not-fine a h e = absurd (omega (arith, ap write_number e))
 
--- so none of them says that none holds
-pub refusing : (rs : List (Row WriteAnswer)) → Refuse rs → Refusing (Ok 0) rs
-refusing [] h j l = absurd (omega arith)
-refusing (r ∷ rs) h zero l = not-fine r.said h.0
-refusing (r ∷ rs) h (suc j) l = refusing rs h.1 j (omega arith)
-
 -- and where the answer is numbered 0 none holds
 pub none-hold : (ok : WriteAnswer) (rs : List (Row WriteAnswer)) → Refuse rs → write_number (first_or ok rs) ≡ 0 →
     NoneHold rs
@@ -186,3 +181,10 @@ none-hold ok (r ∷ rs) h e = by r.fault refl e (λ q. none-hold ok rs h.1 q)
 pub fine-is : (rs : List (Row WriteAnswer)) → Refuse rs → write_number (first_or (Ok 0) rs) ≡ 0 →
     first_or (Ok 0) rs ≡ Ok 0
 fine-is rs h e = none-answer (Ok 0) rs (none-hold (Ok 0) rs h e)
+
+-- the tests of what is given: behind those of scale and counts those of the pieces
+pub given_in_turn : (scale : Fixed) (p : HintParams) (qs : List (Row WriteAnswer)) →
+    first_or (Ok 0) (given_rows scale p ++ qs) ≡
+    result_and (first_or (Ok 0) (given_rows scale p)) (first_or (Ok 0) qs)
+unfolding given_rows
+given_in_turn scale p qs = in-turn 0 (Ok 0) (given_rows scale p) qs refl

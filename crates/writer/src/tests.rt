@@ -76,6 +76,7 @@ fn check_pieces(commands: &[i32], bytes: usize) -> WriteAnswer
 }
 
 // All tests but that of the room.
+#[tactic(auto, using(crate::proofs::PieceFaults::given_in_turn))]
 pub(crate) fn check_given(
     scale: Fixed,
     params: HintParams,

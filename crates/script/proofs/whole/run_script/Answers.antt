@@ -1,6 +1,6 @@
 -- `run_script` answers a script and leaves the output as its definition says, whichever way it
 -- ends. Assumes nothing.
-use mathlib.Core.Path.{◌≡◌, sym, ap, subst, ◌∙◌}
+use mathlib.Core.Path.{◌≡◌, sym, ap, ◌∙◌}
 use mathlib.Core.List.{List, [], ◌∷◌, ◌++◌}
 use Prim.Native.Nat.{ℕ, ◌-◌, ◌≤◌}
 use native.Mathlib.Omega.{arith}
@@ -10,8 +10,9 @@ use borrow.Rule.Slice.PartMut.{put_mid, same_len_mid}
 use Rattle.std.specs.Prelude.{Ok, Err}
 use Rattle.pen.specs.Records.{written}
 use Rattle.pen.proofs.Lent.{lent, back}
+use Rattle.words.specs.declared.answer.Refusal.{Refusal}
 use Rattle.words.specs.Answers.{Answer, first_of, refuses}
-use Rattle.words.proofs.Answers.{numbered, passed_on, says, says_is}
+use Rattle.words.proofs.Answers.{numbered, says, says_is}
 use Rattle.run.specs.declared.running.Ran.{Ran}
 use Rattle.run.specs.Room.{Fitted}
 use Rattle.run.specs.Run.{ending_of, Ended}
@@ -19,7 +20,7 @@ use Rattle.script.specs.Count.{records_in}
 use Rattle.script.specs.Script.{check_rows, script_of, Scripted}
 use Rattle.script.proofs.Counting.{few-records}
 use Rattle.script.proofs.Passed.{passed}
-use Rattle.script.proofs.Results.{refused, by-fault, by_size, ran, by-room, by-run, header-before, behind, short}
+use Rattle.script.proofs.Results.{refused, by_size, ran, by-room, by-run, header-before, behind, short}
 use Rattle.script.proofs.whole.run_script.Goals as goal
 
 -- the run of a script that passes all tests, over the words behind the header
@@ -44,6 +45,11 @@ module _ (s : List ℕ) (out : List ℤ) (ok : first_of (check_rows s) ≡ Ok tt
         ap (λ (k : ℕ). take k (drop 4 (take 4 out ++ written fit.words (drop 4 out)))) e.words ∙
         behind fit.words out enough)
 
+    -- without room for all, the records before stand
+    stopped : {r : Refusal} {a : Answer} → fit.said ≡ Err r → a ≡ Err r → Scripted (script_of s out) a mid
+    stopped {r} f h =
+        rw (h ∙ sym f, home) (by-room s out (ap refuses ok) enough (refused fit.said (rw f (numbered r))))
+
     -- with room for all, the header stands before the records
     sealed : (n : ℕ) (left : List ℤ) → r.answer ≡ Ok tt → n ≡ records_in fit.words →
         left ≡ written (pos 1 ∷ pos n ∷ pos 4 ∷ pos r.words ∷ []) mid → Scripted (script_of s out) (Ok tt) left
@@ -60,42 +66,29 @@ module _ (s : List ℕ) (out : List ℤ) (ok : first_of (check_rows s) ≡ Ok tt
               header-before (pos 1) (pos (records_in ws)) (pos 4) (pos (length ws)) ws out enough ∙ b.memory;
         }
 
-pub returns-in_err-check_script : goal.returns-in_err-check_script
-returns-in_err-check_script c =
-    let s = c.args.script.now in
-    let r = c.in_err-check_script.field-0.0 in
-    let f : first_of (check_rows s) ≡ Err r = sym c.check_script.ensures ∙ c.in_err-check_script.was in
-    subst (λ (a : Answer). Scripted (script_of s c.args.out.now) a c.args.out.now)
-    (sym (passed_on r c.in_err-check_script.was c.from_residual.ensures.1 ∙ c.check_script.ensures))
-    (by-fault s c.args.out.now (refused (first_of (check_rows s)) (rw f (numbered r))))
-
 pub natural-requires : goal.natural-requires
 natural-requires c =
-    omega (arith, (passed _ (sym c.check_script.ensures ∙ c.in_ok-check_script.was)).fine.enough)
+    let ok : first_of (check_rows c.args.script.now) ≡ Ok tt = grind arith in
+    omega (arith, (passed _ ok).fine.enough)
 
 pub returns-then-out-lt-RESULT_HEADER : goal.returns-then-out-lt-RESULT_HEADER
 returns-then-out-lt-RESULT_HEADER c =
-    let ok = sym c.check_script.ensures ∙ c.in_ok-check_script.was in
+    let ok : first_of (check_rows c.args.script.now) ≡ Ok tt = grind arith in
     rw c.natural.ensures.0 (by_size _ _ (ap refuses ok) c.if-out-lt-RESULT_HEADER.true)
 
 pub returns-in_err-ran : goal.returns-in_err-ran
 returns-in_err-ran c =
-    let ok = sym c.check_script.ensures ∙ c.in_ok-check_script.was in
+    let ok : first_of (check_rows c.args.script.now) ≡ Ok tt = grind arith in
     let out = c.args.out.now in
     let enough : 4 ≤ length out = omega (arith, c.if-out-lt-RESULT_HEADER.false) in
     let e = rw lent at c.run_commands-ran.ensures in
     let r = c.in_err-ran.field-0.0 in
-    let a : c.run_commands-ran.result.answer ≡ (fit _ out ok enough).said = says_is e.answer in
-    let f : (fit _ out ok enough).said ≡ Err r = sym a ∙ c.in_err-ran.was in
-    rw (
-      passed_on r c.in_err-ran.was c.from_residual-in_err-ran.ensures.1 ∙ a,
-      home _ out ok enough c.run_commands-ran.result c.run_commands-ran.new.out e,
-    )
-    (by-room _ out (ap refuses ok) enough (refused (fit _ out ok enough).said (rw f (numbered r))))
+    let f : (fit _ out ok enough).said ≡ Err r = sym (says_is e.answer) ∙ c.in_err-ran.was in
+    stopped _ out ok enough c.run_commands-ran.result c.run_commands-ran.new.out e f (grind arith)
 
 pub overflow_cast-records : goal.overflow_cast-records
 overflow_cast-records c =
-    let ok = sym c.check_script.ensures ∙ c.in_ok-check_script.was in
+    let ok : first_of (check_rows c.args.script.now) ≡ Ok tt = grind arith in
     let out = c.args.out.now in
     let enough : 4 ≤ length out = omega (arith, c.if-out-lt-RESULT_HEADER.false) in
     let e = rw lent at c.run_commands-ran.ensures in
@@ -105,7 +98,7 @@ overflow_cast-records c =
 
 pub overflow_cast-ran : goal.overflow_cast-ran
 overflow_cast-ran c =
-    let ok = sym c.check_script.ensures ∙ c.in_ok-check_script.was in
+    let ok : first_of (check_rows c.args.script.now) ≡ Ok tt = grind arith in
     let out = c.args.out.now in
     let enough : 4 ≤ length out = omega (arith, c.if-out-lt-RESULT_HEADER.false) in
     let e = rw lent at c.run_commands-ran.ensures in
@@ -113,7 +106,7 @@ overflow_cast-ran c =
 
 pub seal-requires : goal.seal-requires
 seal-requires c =
-    let ok = sym c.check_script.ensures ∙ c.in_ok-check_script.was in
+    let ok : first_of (check_rows c.args.script.now) ≡ Ok tt = grind arith in
     let out = c.args.out.now in
     let enough : 4 ≤ length out = omega (arith, c.if-out-lt-RESULT_HEADER.false) in
     let e = rw lent at c.run_commands-ran.ensures in
@@ -129,7 +122,7 @@ seal-requires c =
 
 pub returns : goal.returns
 returns c =
-    let ok = sym c.check_script.ensures ∙ c.in_ok-check_script.was in
+    let ok : first_of (check_rows c.args.script.now) ≡ Ok tt = grind arith in
     let out = c.args.out.now in
     let enough : 4 ≤ length out = omega (arith, c.if-out-lt-RESULT_HEADER.false) in
     let e = rw lent at c.run_commands-ran.ensures in
