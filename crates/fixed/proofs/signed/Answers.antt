@@ -1,9 +1,9 @@
 -- `signed` meets its contract, by that of its cast. Assumes nothing.
-use Rattle.std.proofs.Common.{◌∙◌, w32}
+use Rattle.std.proofs.Common.{arith, w32}
 use Rattle.fixed.specs.Integers.{signed}
 use Rattle.fixed.proofs.Bits.{read}
 use Rattle.fixed.proofs.signed.Goals as goal
 
 pub returns : goal.returns
 unfolding signed
-returns c = read w32 c.cast_signed.result c.cast_signed.type_inv ∙ c.cast_signed.ensures
+returns c = grind (arith, read w32 c.cast_signed.result c.cast_signed.type_inv)

@@ -14,6 +14,6 @@ any-below0 (n ∷ ls) = ap (λ (b : Bool). below0 n || b) (any-below0 ls)
 pub returns : goal.returns
 returns c =
     let ls = c.args.lengths.now in
-    any_from_yields_List below0 _ _ _ c.any.ensures.ran (YieldsList-from_slice ls cc)
+    any_from_yields_List below0 _ _ _ c.any.ensures.ran (YieldsList-from_slice ls (search rules))
     (λ x b q k. search (rules, tests)) ∙
     any-below0 ls

@@ -24,7 +24,7 @@ returns-in-Some c =
     let f : InByte (of_bytes c.args.bytes.now) c.in-Some.k c.first_set.result =
     in_byte _ c.fits-bytes c.told-bytes _ _ (sym c.first_byte.ensures ∙ c.in-Some.is) c.first_set.ensures in
     let l : 8 * c.in-Some.k + c.first_set.result < 96 = omega arith in
-    record { stem = sym f.first; mask = rw (f.first, lt-ltb _ _ l) c.clear_active.ensures }
+    record { stem = omega arith; mask = rw (f.first, lt-ltb _ _ l) c.clear_active.ensures }
 
 pub returns-in-None : goal.returns-in-None
 unfolding without_first

@@ -1,6 +1,7 @@
 -- `HintParams::kept` meets its contract: the blues are read into no zones, then at most five other
 -- blues. Assumes nothing.
-use Rattle.std.proofs.Common.{◌≡◌, ◌≤◌, length, arith, rules}
+use Rattle.std.proofs.Common.{◌≡◌, ◌≤◌, length, take, true, min, arith, rules}
+use Rattle.zones.specs.Zones.{read_in}
 use Rattle.zones.proofs.Keep.{first-count, kept-is}
 use Rattle.zones.proofs.state.HintParams.kept.Goals as goal
 
@@ -15,6 +16,7 @@ read-requires-2 c =
 pub returns : goal.returns
 returns c =
     let blues = c.args.self.blues in
+    let others = c.args.self.other_blues in
     let seven : length blues.pairs ≡ 7 = search rules in
-    rw (c.read-2.ensures, c.read.ensures, c.none.ensures, c.least.ensures, c.least-2.ensures)
-    (kept-is blues c.args.self.other_blues seven)
+    let said : c.read-2.result ≡ read_in true c.read.result (take (min others.count 5) others.pairs) = search rules in
+    rw (said, c.read.ensures, c.none.ensures, c.least.ensures) (kept-is blues others seven)
