@@ -142,6 +142,7 @@ answered l room = by (miscounted l.lengths (length l.commands) (length l.masks))
         go (Ok n) f = by-measure l room e (open-fine l.scale l.params (ap label_number f)).0
         go (Err r) f = by-numbers l room e (sym f) (err-number r)
 
+-- every refusal refuses
 pub errs-refuse : (r : LabelRefusal) → label_refuses (Err r) ≡ true
 errs-refuse RunCount = refl
 errs-refuse BadScale = refl

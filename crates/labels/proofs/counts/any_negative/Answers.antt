@@ -1,6 +1,8 @@
 -- `any_negative` finds a length below 0. Assumes nothing.
-use Rattle.std.proofs.Common.{rules, tests, ◌≡◌, refl, ap, ◌∙◌, Bool, ◌||◌, ℤ, List, [], ◌∷◌}
+use Rattle.std.proofs.Common.{arith, rules, tests, ◌≡◌, refl, ap, ◌∙◌, Bool, ◌||◌, ℤ, List, [], ◌∷◌}
 use Rattle.std.specs.List.{list_any}
+use Rattle.std.proofs.Math.Seq.{take-length}
+use Rattle.std.proofs.lemmas.List.{take_rest}
 use Rattle.std.proofs.lemmas.Iterator.{YieldsList-from_slice}
 use Rattle.std.proofs.lemmas.Iterator.Search.{any_from_yields_List}
 use Rattle.labels.specs.Glyphs.{below0, any_negative}
@@ -14,6 +16,7 @@ any-below0 (n ∷ ls) = ap (λ (b : Bool). below0 n || b) (any-below0 ls)
 pub returns : goal.returns
 returns c =
     let ls = c.args.lengths.now in
-    any_from_yields_List below0 _ _ _ c.any.ensures.ran (YieldsList-from_slice ls (search rules))
+    any_from_yields_List below0 _ _ _ c.any.ensures.ran
+    (YieldsList-from_slice ls (grind (arith, take_rest ls, take-length ls)))
     (λ x b q k. search (rules, tests)) ∙
     any-below0 ls

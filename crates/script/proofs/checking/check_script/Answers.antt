@@ -1,4 +1,4 @@
--- `check_script` gives the first fault of a script, by the contracts of its calls. Assumes nothing.
+-- `check_script` may ask for the commands' faults, since the header is fine. Assumes nothing.
 use mathlib.Core.Path.{sym, ◌∙◌}
 use native.Mathlib.Omega.{arith}
 use Rattle.words.proofs.Answers.{says_is}
