@@ -22,7 +22,7 @@ use Rattle.words.proofs.Answers.{not-refused}
 use Rattle.labels.specs.declared.label_answer.LabelRefusal.{LabelRefusal}
 use Rattle.labels.specs.declared.label_answer.LabelRefusal.TheVariants.{RunCount, BadScale, BadBlues}
 use Rattle.labels.specs.declared.label_answer.LabelRefusal.TheVariants.{BadCommand, BadMask, NoRoom}
-use Rattle.labels.specs.Answers.{LabelAnswer, label_number, label_refuses, in_glyph}
+use Rattle.labels.specs.Answers.{LabelAnswer, label_number, in_glyph}
 use Rattle.std.proofs.Common.{Ok, Err}
 use Rattle.std.specs.Result.{result_and}
 use Rattle.labels.specs.Glyphs.{Glyph, glyphs_of, miscounted, fault_of}
@@ -142,17 +142,6 @@ answered l room = by (miscounted l.lengths (length l.commands) (length l.masks))
         go (Ok n) f = by-measure l room e (open-fine l.scale l.params (ap label_number f)).0
         go (Err r) f = by-numbers l room e (sym f) (err-number r)
 
--- every refusal refuses
-pub errs-refuse : (r : LabelRefusal) → label_refuses (Err r) ≡ true
-errs-refuse RunCount = refl
-errs-refuse BadScale = refl
-errs-refuse BadBlues = refl
-errs-refuse (BadCommand k p) = refl
-errs-refuse (BadMask k p) = refl
-errs-refuse (NoRoom k) = refl
-
-pub ruleset tests_in_turn = (answered, errs-refuse)
-
 -- ---- what an answer that does not refuse leaves
 -- a fault refuses
 fault-number : (k : ℕ) (a : Answer) → label_number (in_glyph k a) ≡ 0 → ⊥
@@ -211,7 +200,7 @@ measured-fine gs room z =
     let g = glyphs-fine ok 1 gs (room_rows room 0 m ns) z in
     (g.0, (rooms_fine ok room 0 m ns (ap label_number (sym g.1) ∙ z)).0)
 
--- the glyphs can be filled into such an output
+-- glyphs that are not refused so can be filled into the output
 pub fillable : (ls words : List ℤ) (masks : List ℕ) (out : List ℤ) →
     miscounted ls (length words) (length masks) ≡ false →
     label_number (measured_of (glyphs_of ls words masks) (room_in out)) ≡ 0 → Fillable ls words masks (length out)

@@ -28,7 +28,7 @@ fn check_numbers(scale: Fixed, params: HintParams) -> LabelAnswer
 }
 
 // Hints a label into a lent output, or refuses and writes nothing.
-#[tactic(auto, using(crate::proofs::Answering::tests_in_turn), unfolding(crate::specs::Labels::labels_of))]
+#[tactic(auto, using(crate::proofs::Answering::answered), unfolding(crate::specs::Labels::labels_of))]
 pub fn run_labels(
     scale: Fixed,
     params: HintParams,

@@ -2,7 +2,7 @@
 use Rattle.std.proofs.Common.{arith, sym, ap, ◌∙◌}
 use Rattle.labels.specs.Answers.{label_number}
 use Rattle.labels.specs.Labels.{labels_of, records_in}
-use Rattle.labels.proofs.Answering.{open-fine, fillable, tests_in_turn}
+use Rattle.labels.proofs.Answering.{open-fine, answered, fillable}
 use Rattle.labels.proofs.labelling.run_labels.Goals as goal
 
 pub new-requires : goal.new-requires
@@ -18,4 +18,4 @@ fill-requires c =
 
 pub returns : goal.returns
 unfolding labels_of records_in
-returns c = grind (arith, tests_in_turn)
+returns c = grind (arith, answered)
